@@ -1,0 +1,74 @@
+use mathlib.Core.Path.{_≡_, refl, sym, ap, _∙_}
+use mathlib.Core.Bool.{Bool, true, false, not}
+use mathlib.Core.Logic.{⊎-elim}
+use Prim.Native.Nat.{ℕ, _+_, _-_, _≤_, _<_}
+use native.Mathlib.Omega.{arith}
+use lib.Dec.{eqb}
+use lib.ListN.{length, drop, getD}
+use borrow.Author.Needs.{needs}
+use borrow.Author.Tests.{lt-ltb, le-ltb, le-leb, lt-leb, eq-eqb, ne-eqb, not-true, not-false}
+use Rattle.lexis.specs.Bytes.{spanLen}
+use Rattle.lexis.specs.Runs.{passes}
+use Rattle.lexis.proofs.Runs.{span-more, span-stop, span-end}
+use Rattle.lexis.proofs.span.run_end.Statement.{statement}
+use Rattle.lexis.proofs.span.run_end.Tie as tie
+use Rattle.lexis.proofs.span.run_end.Reads as reads
+use Rattle.lexis.proofs.span.run_end.Lts as lts
+use Rattle.lexis.proofs.span.belongs.Reads as belongs-reads
+
+abbrev Inv-loop : tie.InvT-loop
+Inv-loop classes text from run i₀ i = from + spanLen (passes run) (drop from text) ≡ i + spanLen (passes run) (drop i text)
+
+abbrev μ-loop : tie.MeasureT-loop
+μ-loop classes text from run i₀ i = length text - i
+
+-- src/span.rt:49:5
+loop-holds : tie.Need-loop-holds Inv-loop μ-loop
+loop-holds c = refl
+
+-- src/span.rt:50:26
+shared-slice-read-belongs : tie.Need-shared-slice-read-belongs Inv-loop μ-loop
+shared-slice-read-belongs c = search needs
+
+-- src/span.rt:50:13
+belongs-requires : tie.Need-belongs-requires Inv-loop μ-loop
+belongs-requires c κs = search needs
+
+-- src/span.rt:51:13
+returns : tie.Need-returns Inv-loop μ-loop
+returns c =
+    let at-test = c .before .before .before in
+    sym (at-test .before .loop .inv ∙ span-stop _ _ _ (at-test .loop-test .taken) (sym (c .before .belongs .ensures) ∙ not-true _ (c .if1 .taken)))
+
+-- src/span.rt:53:9
+add-i : tie.Need-add-i Inv-loop μ-loop
+add-i c = search needs
+
+-- src/span.rt:49:5
+loop-less : tie.Need-loop-less Inv-loop μ-loop
+loop-less c = search needs
+
+-- src/span.rt:49:5
+loop-again : tie.Need-loop-again Inv-loop μ-loop
+loop-again c =
+    let at-test = c .before .before .before in
+    at-test .before .loop .inv ∙ span-more _ _ _ (at-test .loop-test .taken) (sym (c .before .belongs .ensures) ∙ not-false _ (c .if1 .left))
+
+-- src/span.rt:45:1
+returns-2 : tie.Need-returns-2 Inv-loop μ-loop
+returns-2 c = sym (c .before .loop .inv ∙ span-end _ _ _ (c .loop-test .left))
+
+pub run-end-spec : {M : Type 1} → statement M
+run-end-spec =
+    tie.close
+    (tie.spec
+    Inv-loop
+    μ-loop
+    loop-holds
+    shared-slice-read-belongs
+    belongs-requires
+    returns
+    add-i
+    loop-less
+    loop-again
+    returns-2)

@@ -1,0 +1,14 @@
+-- The shape of the number at the front of a text, as the code finds it.
+-- Assumes nothing.
+use Prim.Native.Nat.{ℕ}
+use mathlib.Core.Bool.{cond}
+use mathlib.Core.List.{List}
+use lib.ListN.{getD}
+use Rattle.lexis.specs.Number.{partsOf, partsLen}
+use Rattle.lexis.specs.Lexeme.{sticks}
+use Rattle.lexis.specs.declared.number.Shape.{Shape}
+use Rattle.lexis.specs.declared.number.Shape.the-variants.{Good, Stuck}
+
+-- the parts, where no letter or point follows them
+unfoldable pub shapeOf : List ℕ → Shape
+shapeOf s = cond (sticks (getD s (partsLen (partsOf s)) 0)) Stuck (Good (partsOf s))

@@ -1,0 +1,36 @@
+-- What the token cursor finds at a place of a text.
+-- Assumes nothing.
+use Prim.Native.Nat.{ℕ, suc, _+_}
+use mathlib.Core.Bool.{Bool, cond}
+use mathlib.Core.List.{List, [], _∷_}
+use lib.Dec.{leb, ltb, eqb}
+use lib.ListN.{length, drop, getD}
+use Rattle.lexis.specs.Sizes.{maxTokens}
+use Rattle.lexis.specs.Bytes.{classOf, spanLen}
+use Rattle.lexis.specs.Runs.{passes}
+use Rattle.lexis.specs.Lexeme.{lexeme}
+use Rattle.lexis.specs.declared.span.Run.{Run}
+use Rattle.lexis.specs.declared.span.Run.the-variants.{Spaces, Comment}
+use Rattle.lexis.specs.declared.token.Lexeme.{Lexeme}
+use Rattle.lexis.specs.declared.token.Lexeme.the-variants as L
+use Rattle.lexis.specs.declared.cursor.Cursor.{Cursor}
+use Rattle.lexis.specs.declared.cursor.Step.{Step}
+use Rattle.lexis.specs.declared.cursor.Step.the-variants.{Next, Gap, End, Fault}
+
+-- the record of a token of kind k and length n at `start`, the count-th of its text, with the next cursor
+abbrev pub stepTo : Lexeme → ℕ → ℕ → Step
+stepTo (L.Fault c) start count = Fault c start
+stepTo (L.Token k n) start count =
+    cond (ltb count maxTokens) (Next (record { kind = k; start = start; end = start + n }) (record { at = start + n; count = count + 1 }))
+    (Fault 8 start)
+
+-- past the byte at the cursor and the run after it
+abbrev pub gapTo : Run → List ℕ → Cursor → Step
+gapTo run text c = Gap (record { at = c .at + 1 + spanLen (passes run) (drop (c .at + 1) text); count = c .count })
+
+-- the end; white space; a comment, up to its line's end; a token with the next cursor, or its fault
+unfoldable pub stepAt : List ℕ → Cursor → Step
+stepAt text c =
+    let k = classOf (getD text (c .at) 0) in
+    let token = stepTo (lexeme (drop (c .at) text)) (c .at) (c .count) in
+    cond (leb (length text) (c .at)) End (cond (eqb k 1) (gapTo Spaces text c) (cond (eqb k 5) (gapTo Comment text c) token))

@@ -1,0 +1,84 @@
+// The token cursor.
+use crate::class::class_of;
+use crate::limits::Limits;
+use crate::span::Run;
+use crate::span::run_end;
+use crate::token::Lexeme;
+use crate::token::token_at;
+ghost use mathlib.Core.Path.{_≡_};
+ghost use Rattle.lexis.specs.Bytes.{classTable};
+ghost use Rattle.lexis.specs.Steps.{stepAt};
+
+// A token record: kind, start, end after the last byte.
+pub struct Record {
+    pub kind: u8,
+    pub start: usize,
+    pub end: usize,
+}
+
+// A place in a text, and how many tokens were read before it.
+pub struct Cursor {
+    pub at: usize,
+    pub count: usize,
+}
+
+// What a cursor finds: a token or a part of a gap, and the next cursor; the end of the text; or a fault.
+pub enum Step {
+    Next(Record, Cursor),
+    Gap(Cursor),
+    End,
+    Fault { code: u8, at: usize },
+}
+
+impl Cursor {
+    pub fn new() -> Self
+        ensures { λ r. ⌜ r ≡ record { at = 0; count = 0 } ⌝ }
+    {
+        Cursor { at: 0, count: 0 }
+    }
+
+    pub fn next(self, classes: &[u8; 256], text: &[u8]) -> Step
+        requires { ⌜ now classes ≡ classTable ⌝ }
+        ensures { λ r. ⌜ r ≡ stepAt (now (text .entry)) self ⌝ }
+    {
+        let count = self.count;
+        let at = self.at;
+        if text.len() <= at {
+            return Step::End;
+        }
+        let k = class_of(classes, text[at]);
+        if k == 1 {
+            let end = run_end(classes, text, at + 1, Run::Spaces);
+            return Step::Gap(Cursor {
+                at: end,
+                count: count,
+            });
+        }
+        if k == 5 {
+            let end = run_end(classes, text, at + 1, Run::Comment);
+            return Step::Gap(Cursor {
+                at: end,
+                count: count,
+            });
+        }
+        match token_at(classes, text, at, k) {
+            Lexeme::Fault(code) => Step::Fault { code: code, at: at },
+            Lexeme::Token { kind, len } => {
+                if !Limits::token_fits(count) {
+                    return Step::Fault { code: 8, at: at };
+                }
+                Step::Next(
+                    Record {
+                        kind: kind,
+                        start: at,
+                        end: at + len,
+                    },
+                    Cursor {
+                        at: at + len,
+                        count: count + 1,
+                    },
+                )
+            }
+        }
+    }
+}

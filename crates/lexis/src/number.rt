@@ -1,0 +1,295 @@
+// The shape of a number, and its reduced value.
+use crate::class::class_of;
+use crate::exponent::exponent;
+use crate::exponent::is_near;
+use crate::limits::Limits;
+use crate::mantissa::Mantissa;
+use crate::mantissa::capped_value;
+use crate::mantissa::pushed_all;
+use crate::span::Run;
+use crate::span::run_end;
+use crate::token::Lexeme;
+use crate::token::byte_at;
+ghost use mathlib.Core.Path.{_≡_};
+ghost use Prim.Native.Nat.{_+_, _<_, _≤_, min, pred};
+ghost use lib.ListN.{length, drop, getD};
+ghost use Rattle.lexis.specs.Bytes.{classTable};
+ghost use Rattle.lexis.specs.Shapes.{shapeOf};
+ghost use Rattle.lexis.specs.Number.{fracLen, signLen, isE, expLen, partsOf, digitsOf, writtenOf, minusOf};
+ghost use Rattle.lexis.specs.Push.{noDigits, pushAll, reductionOf};
+ghost use Rattle.lexis.specs.Lexeme.{sticks, inRange, numberLexeme};
+
+// The three parts of a number: whole digits, point and fraction, exponent; each a count of bytes.
+pub struct Parts {
+    pub whole: usize,
+    pub frac: usize,
+    pub exp: usize,
+}
+
+// How many bytes at `at` are a point and digits.
+fn frac_len(classes: &[u8; 256], text: &[u8], at: usize) -> usize
+    requires { ⌜ now classes ≡ classTable ⌝ }
+    requires { ⌜ at ≤ length (now text) ⌝ }
+    ensures { λ r. ⌜ r ≡ fracLen (drop at (now (text .entry))) ⌝ }
+{
+    if byte_at(text, at) != 46 {
+        return 0;
+    }
+    let from = at + 1;
+    let end = run_end(classes, text, from, Run::Digits);
+    if end == from {
+        return 0;
+    }
+    end - at
+}
+
+// 1 where a sign stands at `at`.
+fn sign_len(text: &[u8], at: usize) -> usize
+    ensures { λ r. ⌜ r ≡ signLen (drop at (now (text .entry))) ⌝ }
+{
+    let b = byte_at(text, at);
+    if b == 43 {
+        return 1;
+    }
+    if b == 45 {
+        return 1;
+    }
+    0
+}
+
+fn is_e(b: u8) -> bool
+    ensures { λ r. ⌜ r ≡ isE b ⌝ }
+{
+    if b == 101 {
+        return true;
+    }
+    b == 69
+}
+
+// How many bytes at `at` are e or E, a sign or none, and digits.
+fn exp_len(classes: &[u8; 256], text: &[u8], at: usize) -> usize
+    requires { ⌜ now classes ≡ classTable ⌝ }
+    requires { ⌜ at ≤ length (now text) ⌝ }
+    ensures { λ r. ⌜ r ≡ expLen (drop at (now (text .entry))) ⌝ }
+{
+    let b = byte_at(text, at);
+    if !is_e(b) {
+        return 0;
+    }
+    let sign = sign_len(text, at + 1);
+    let from = at + (1 + sign);
+    let end = run_end(classes, text, from, Run::Digits);
+    if end == from {
+        return 0;
+    }
+    end - at
+}
+
+// A byte that may not follow a number.
+fn sticks_to(classes: &[u8; 256], b: u8) -> bool
+    requires { ⌜ now classes ≡ classTable ⌝ }
+    ensures { λ r. ⌜ r ≡ sticks b ⌝ }
+{
+    if class_of(classes, b) == 3 {
+        return true;
+    }
+    b == 46
+}
+
+// What a number reduces to.
+pub enum Reduction {
+    Number { mantissa: u64, exponent: i32 },
+    OutOfRange,
+}
+
+// The digits of the whole part and of the fraction, side by side.
+fn mantissa_at(text: &[u8], at: usize, p: Parts) -> Mantissa
+    requires { ⌜ at + (p .whole + p .frac + p .exp) ≤ length (now text) ⌝ }
+    requires { ⌜ p .whole + p .frac + p .exp ≤ 64 ⌝ }
+    ensures { λ r. ⌜ r ≡ pushAll noDigits (digitsOf (drop at (now (text .entry))) p) ⌝ }
+{
+    let whole = p.whole;
+    let frac = p.frac;
+    let a = pushed_all(text, at, whole, Mantissa { value: 0, zeros: 0 });
+    if frac == 0 {
+        return a;
+    }
+    pushed_all(text, at + (whole + 1), frac - 1, a)
+}
+
+// The exponent as written, without its sign, at most 10000.
+fn written_at(classes: &[u8; 256], text: &[u8], at: usize, p: Parts) -> u32
+    requires { ⌜ now classes ≡ classTable ⌝ }
+    requires { ⌜ at + (p .whole + p .frac + p .exp) ≤ length (now text) ⌝ }
+    ensures { λ r. ⌜ r ≡ min (writtenOf (drop at (now (text .entry))) p) 10000 ⌝ }
+{
+    let exp = p.exp;
+    if exp == 0 {
+        return 0;
+    }
+    let start = at + (p.whole + p.frac);
+    let sign = sign_len(text, start + 1);
+    let from = start + (1 + sign);
+    let end = run_end(classes, text, from, Run::Digits);
+    capped_value(text, from, end - from)
+}
+
+// Whether the exponent has a minus sign.
+fn minus_at(text: &[u8], at: usize, p: Parts) -> bool
+    requires { ⌜ at + (p .whole + p .frac + p .exp) ≤ length (now text) ⌝ }
+    ensures { λ r. ⌜ r ≡ minusOf (drop at (now (text .entry))) p ⌝ }
+{
+    let exp = p.exp;
+    if exp == 0 {
+        return false;
+    }
+    let b = byte_at(text, at + (p.whole + p.frac + 1));
+    b == 45
+}
+
+// How many digits the fraction has.
+fn points_of(p: Parts) -> u32
+    requires { ⌜ p .frac ≤ 64 ⌝ }
+    ensures { λ r. ⌜ r ≡ pred (p .frac) ⌝ }
+{
+    let frac = p.frac;
+    if frac == 0 {
+        return 0;
+    }
+    (frac - 1) as u32
+}
+
+// The number of parts p at `at`, reduced.
+pub fn reduce_at(classes: &[u8; 256], text: &[u8], at: usize, p: Parts) -> Reduction
+    requires { ⌜ now classes ≡ classTable ⌝ }
+    requires { ⌜ at + (p .whole + p .frac + p .exp) ≤ length (now text) ⌝ }
+    requires { ⌜ p .whole + p .frac + p .exp ≤ 64 ⌝ }
+    requires { ⌜ p ≡ partsOf (drop at (now text)) ⌝ }
+    ensures { λ r. ⌜ r ≡ reductionOf (drop at (now (text .entry))) p ⌝ }
+{
+    let w = written_at(classes, text, at, p);
+    if Limits::WRITTEN < w {
+        return Reduction::OutOfRange;
+    }
+    let m = mantissa_at(text, at, p);
+    let value = m.value;
+    let zeros = m.zeros;
+    if value == 0 {
+        return Reduction::Number {
+            mantissa: 0,
+            exponent: 0,
+        };
+    }
+    if Limits::MANTISSA_END <= value {
+        return Reduction::OutOfRange;
+    }
+    let minus = minus_at(text, at, p);
+    let points = points_of(p);
+    let e = exponent(w, minus, points, zeros as u32);
+    if !is_near(e) {
+        return Reduction::OutOfRange;
+    }
+    Reduction::Number {
+        mantissa: value,
+        exponent: e,
+    }
+}
+
+// The shape of a number: its parts, or that a letter or a point sticks to it.
+pub enum Shape {
+    Good(Parts),
+    Stuck,
+}
+
+// Whether a byte that may not follow a number stands at `at`.
+fn sticks_at(classes: &[u8; 256], text: &[u8], at: usize) -> bool
+    requires { ⌜ now classes ≡ classTable ⌝ }
+    ensures { λ r. ⌜ r ≡ sticks (getD (now (text .entry)) at 0) ⌝ }
+{
+    if text.len() <= at {
+        return false;
+    }
+    sticks_to(classes, text[at])
+}
+
+// The shape of the longest number at `at`. A byte that does not stick ends it, so most numbers are told by one byte after their digits.
+fn shape_at(classes: &[u8; 256], text: &[u8], at: usize) -> Shape
+    requires { ⌜ now classes ≡ classTable ⌝ }
+    requires { ⌜ at ≤ length (now text) ⌝ }
+    ensures { λ r. ⌜ r ≡ shapeOf (drop at (now (text .entry))) ⌝ }
+{
+    let end = run_end(classes, text, at, Run::Digits);
+    let whole = end - at;
+    if !sticks_at(classes, text, end) {
+        return Shape::Good(Parts {
+            whole: whole,
+            frac: 0,
+            exp: 0,
+        });
+    }
+    let frac = frac_len(classes, text, end);
+    let mid = end + frac;
+    if !sticks_at(classes, text, mid) {
+        return Shape::Good(Parts {
+            whole: whole,
+            frac: frac,
+            exp: 0,
+        });
+    }
+    let exp = exp_len(classes, text, mid);
+    if sticks_at(classes, text, mid + exp) {
+        return Shape::Stuck;
+    }
+    Shape::Good(Parts {
+        whole: whole,
+        frac: frac,
+        exp: exp,
+    })
+}
+
+// Whether the bytes w of a number, of parts p, are in range. Without an exponent, 18 bytes or fewer always are.
+fn in_range(classes: &[u8; 256], w: &[u8], p: Parts) -> bool
+    requires { ⌜ now classes ≡ classTable ⌝ }
+    requires { ⌜ length (now w) ≤ 64 ⌝ }
+    requires { ⌜ p ≡ partsOf (now w) ⌝ }
+    ensures { λ r. ⌜ r ≡ inRange (now (w .entry)) p ⌝ }
+{
+    let exp = p.exp;
+    if exp == 0 {
+        if w.len() <= 18 {
+            return true;
+        }
+    }
+    match reduce_at(classes, w, 0, p) {
+        Reduction::Number {
+            mantissa: _,
+            exponent: _,
+        } => true,
+        Reduction::OutOfRange => false,
+    }
+}
+
+// A number at `at`.
+pub fn number_at(classes: &[u8; 256], text: &[u8], at: usize) -> Lexeme
+    requires { ⌜ now classes ≡ classTable ⌝ }
+    requires { ⌜ at < length (now text) ⌝ }
+    ensures { λ r. ⌜ r ≡ numberLexeme (drop at (now (text .entry))) ⌝ }
+{
+    match shape_at(classes, text, at) {
+        Shape::Stuck => Lexeme::Fault(4),
+        Shape::Good(p) => {
+            let n = p.whole + p.frac + p.exp;
+            let end = at + n;
+            if !Limits::number_fits(n) {
+                return Lexeme::Fault(6);
+            }
+            if !in_range(classes, &text[at..end], p) {
+                return Lexeme::Fault(7);
+            }
+            if n == p.whole {
+                return Lexeme::Token { kind: 2, len: n };
+            }
+            Lexeme::Token { kind: 3, len: n }
+        }
+    }
+}

@@ -1,0 +1,141 @@
+// The token at a position of a text.
+use crate::limits::Limits;
+use crate::number::number_at;
+use crate::span::Run;
+use crate::span::name_end;
+use crate::span::run_end;
+use crate::word::kind_of_word;
+ghost use mathlib.Core.Path.{_≡_};
+ghost use Prim.Native.Nat.{_+_, _<_, _≤_};
+ghost use lib.ListN.{length, drop, getD};
+ghost use Rattle.lexis.specs.Bytes.{classOf, classTable};
+ghost use Rattle.lexis.specs.Lexeme.{wordLexeme, stringLexeme, takesEqual, markLexeme, lexeme};
+
+// What stands at the front of a text: a token, or the code of its fault.
+pub enum Lexeme {
+    Token { kind: u8, len: usize },
+    Fault(u8),
+}
+
+// The byte at i, and 0 past the end.
+pub fn byte_at(text: &[u8], i: usize) -> u8
+    ensures { λ r. ⌜ r ≡ getD (now (text .entry)) i 0 ⌝ }
+{
+    if i < text.len() {
+        return text[i];
+    }
+    0
+}
+
+// A name, a keyword, true or false.
+pub fn word_at(classes: &[u8; 256], text: &[u8], at: usize) -> Lexeme
+    requires { ⌜ now classes ≡ classTable ⌝ }
+    requires { ⌜ at < length (now text) ⌝ }
+    ensures { λ r. ⌜ r ≡ wordLexeme (drop at (now (text .entry))) ⌝ }
+{
+    let end = name_end(classes, text, at);
+    let n = end - at;
+    if !Limits::name_fits(n) {
+        return Lexeme::Fault(6);
+    }
+    let k = kind_of_word(&text[at..end]);
+    Lexeme::Token { kind: k, len: n }
+}
+
+// A string whose opening quote stands at `at`.
+pub fn string_at(classes: &[u8; 256], text: &[u8], at: usize) -> Lexeme
+    requires { ⌜ now classes ≡ classTable ⌝ }
+    requires { ⌜ at < length (now text) ⌝ }
+    ensures { λ r. ⌜ r ≡ stringLexeme (getD (now (text .entry)) at 0) (drop (at + 1) (now (text .entry))) ⌝ }
+{
+    let q = text[at];
+    let from = at + 1;
+    let end = run_end(classes, text, from, Run::Content(q));
+    if byte_at(text, end) != q {
+        return Lexeme::Fault(5);
+    }
+    let n = end - from;
+    if !Limits::string_fits(n) {
+        return Lexeme::Fault(6);
+    }
+    Lexeme::Token {
+        kind: 4,
+        len: n + 2,
+    }
+}
+
+// A byte that = may follow.
+fn takes_equal(a: u8) -> bool
+    ensures { λ r. ⌜ r ≡ takesEqual a ⌝ }
+{
+    if a == 60 {
+        return true;
+    }
+    if a == 62 {
+        return true;
+    }
+    if a == 61 {
+        return true;
+    }
+    a == 33
+}
+
+// An operator or a syntactic character: a is its first byte, of class k, b the next, 0 where there is none.
+pub fn mark_of(k: u8, a: u8, b: u8) -> Lexeme
+    requires { ⌜ k ≡ classOf a ⌝ }
+    ensures { λ r. ⌜ r ≡ markLexeme a b ⌝ }
+{
+    if k == 7 {
+        if a == 61 {
+            if b == 61 {
+                return Lexeme::Token { kind: 7, len: 2 };
+            }
+        }
+        return Lexeme::Token { kind: 8, len: 1 };
+    }
+    if k == 6 {
+        if b == 61 {
+            if takes_equal(a) {
+                return Lexeme::Token { kind: 7, len: 2 };
+            }
+        }
+        if b == 62 {
+            if a == 45 {
+                return Lexeme::Token { kind: 8, len: 2 };
+            }
+        }
+        return Lexeme::Token { kind: 7, len: 1 };
+    }
+    if k == 8 {
+        if b == a {
+            return Lexeme::Token { kind: 7, len: 2 };
+        }
+    }
+    Lexeme::Fault(3)
+}
+
+// What stands at `at`, a byte of class k, where no gap does. The marks of one byte come first: they are the most frequent tokens.
+pub fn token_at(classes: &[u8; 256], text: &[u8], at: usize, k: u8) -> Lexeme
+    requires { ⌜ now classes ≡ classTable ⌝ }
+    requires { ⌜ at < length (now text) ⌝ }
+    requires { ⌜ k ≡ classOf (getD (now text) at 0) ⌝ }
+    ensures { λ r. ⌜ r ≡ lexeme (drop at (now (text .entry))) ⌝ }
+{
+    let b = text[at];
+    if k == 7 {
+        if b != 61 {
+            return Lexeme::Token { kind: 8, len: 1 };
+        }
+    }
+    if k == 3 {
+        return word_at(classes, text, at);
+    }
+    if k == 2 {
+        return number_at(classes, text, at);
+    }
+    if k == 4 {
+        return string_at(classes, text, at);
+    }
+    let next = byte_at(text, at + 1);
+    mark_of(k, b, next)
+}
