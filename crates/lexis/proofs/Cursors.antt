@@ -1,10 +1,9 @@
--- What the token cursor finds, and what that says of the tokens of the text.
--- Assumes nothing.
+-- What the token cursor finds: first a law for each answer of `next`, then what each answer says of the tokens of the text (`step-says`).
 use mathlib.Core.Path.{_≡_, refl, sym, ap, _∙_, subst}
 use mathlib.Core.Bool.{Bool, true, false, cond}
-use mathlib.Core.List.{List, [], _∷_}
-use Prim.Native.Nat.{ℕ, zero, suc, _+_, _-_, _≤_, _<_, zero-le}
-use native.Mathlib.Nat.{add-zero, le-refl}
+use mathlib.Core.List.{List, []}
+use Prim.Native.Nat.{ℕ, suc, _+_, _≤_, _<_}
+use native.Mathlib.Nat.{le-refl}
 use native.Mathlib.Numerals.{add-one}
 use native.Mathlib.Omega.{arith}
 use lib.Dec.{eqb, ltb, leb}
@@ -13,9 +12,9 @@ use lib.Seq.{drop-drop, length-take-le}
 use borrow.Author.Tests.{le-leb, lt-leb, ne-eqb, leb-true, leb-false, ltb-true, eqb-true, eqb-false}
 use Rattle.lexis.specs.Sizes.{maxTokens}
 use Rattle.lexis.specs.Bytes.{classOf, spanLen, gapFrom, gapLen}
-use Rattle.lexis.specs.Runs.{passes}
 use Rattle.lexis.specs.Lexeme.{lexeme}
-use Rattle.lexis.specs.Lex.{Token, Lexed, accepted, refused, prepend, lexFrom}
+use Rattle.lexis.specs.Lexer.{Token, Lexed, accepted, refused, prepend, lexFrom}
+use Rattle.lexis.specs.Runs.{passes}
 use Rattle.lexis.specs.Steps.{stepTo, gapTo, stepAt}
 use Rattle.lexis.specs.declared.token.Lexeme.{Lexeme}
 use Rattle.lexis.specs.declared.token.Lexeme.the-variants as L
@@ -25,10 +24,10 @@ use Rattle.lexis.specs.declared.cursor.Step.{Step}
 use Rattle.lexis.specs.declared.cursor.Step.the-variants.{Next, Gap, End, Fault}
 use Rattle.lexis.specs.declared.span.Run.{Run}
 use Rattle.lexis.specs.declared.span.Run.the-variants.{Spaces, Comment}
-use Rattle.lexis.proofs.Sized.{Sized, sized}
-use Rattle.lexis.proofs.Lexes.{lex-nil, after, lex-token}
+use Rattle.lexis.proofs.Lengths.{Sized, sized}
+use Rattle.lexis.proofs.Lexer.{lex-nil, after, lex-token}
 use Rattle.lexis.proofs.Runs.{gap-stop}
-use Rattle.lexis.proofs.Fronts.{span-in}
+use Rattle.lexis.proofs.Positions.{span-in}
 use Rattle.lexis.proofs.Gaps.{pass-spaces, pass-comment}
 
 -- ---- what `next` returns

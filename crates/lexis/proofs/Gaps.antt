@@ -1,22 +1,20 @@
--- A run of white space, and a comment up to its line's end, within a gap.
--- Assumes nothing.
+-- A run of white space, and a comment up to its line's end, within a gap: what follows does not depend on where in a gap one begins.
 use mathlib.Core.Path.{_≡_, refl, sym, ap, _∙_}
 use mathlib.Core.Bool.{Bool, true, false, cond, not}
 use mathlib.Core.List.{List, [], _∷_}
-use Prim.Native.Nat.{ℕ, suc, _+_, _≤_, _<_}
+use Prim.Native.Nat.{ℕ, suc, _+_, _<_}
 use native.Mathlib.Nat.{zero-add}
 use native.Mathlib.Omega.{arith}
 use lib.Dec.{eqb}
 use lib.ListN.{length, drop, getD}
 use lib.Seq.{drop-drop}
-use borrow.Author.Tests.{eqb-true, eqb-false}
+use borrow.Author.Tests.{eqb-true}
 use Rattle.lexis.specs.Bytes.{classOf, spanLen, gapFrom, gapLen}
+use Rattle.lexis.specs.Lexer.{lexFrom}
 use Rattle.lexis.specs.Runs.{passes}
-use Rattle.lexis.specs.Lex.{Lexed, lexFrom}
-use Rattle.lexis.specs.declared.span.Run.{Run}
 use Rattle.lexis.specs.declared.span.Run.the-variants.{Spaces, Comment}
 use Rattle.lexis.proofs.Runs.{gap-space, gap-sign}
-use Rattle.lexis.proofs.Lexes.{lex-gap}
+use Rattle.lexis.proofs.Lexer.{lex-gap}
 
 spaces-first : (t : List ℕ) → gapFrom false t ≡ spanLen (passes Spaces) t + gapFrom false (drop (spanLen (passes Spaces) t) t)
 unfolding gapFrom spanLen

@@ -1,14 +1,12 @@
--- Operators and syntactic characters, by the class of their first byte.
--- Assumes nothing.
-use mathlib.Core.Path.{_≡_, refl, sym, ap, _∙_}
-use mathlib.Core.Bool.{Bool, true, false, cond, _&&_, _||_, and-false}
+-- Operators and syntactic characters, by the class of their first byte: a law for each way that the code answers.
+use mathlib.Core.Path.{_≡_, sym, ap, _∙_}
+use mathlib.Core.Bool.{true, false, _&&_, and-false}
 use Prim.Native.Nat.{ℕ}
 use native.Mathlib.Omega.{arith}
 use lib.Dec.{eqb}
 use borrow.Author.Tests.{eq-eqb, ne-eqb}
 use Rattle.lexis.specs.Bytes.{classOf}
 use Rattle.lexis.specs.Lexeme.{takesEqual, isPair, isArrow, markLexeme}
-use Rattle.lexis.specs.declared.token.Lexeme.{Lexeme}
 use Rattle.lexis.specs.declared.token.Lexeme.the-variants.{Token, Fault}
 
 -- only = and operators take an equal sign

@@ -1,32 +1,30 @@
--- The reduction of a number, by the cases that the code meets.
--- Assumes nothing.
+-- The reduction of a number, by the cases that the code meets: first that a number's digits are digits, then each answer, then that a
+-- short number without an exponent is always in range.
 use mathlib.Core.Path.{_≡_, refl, sym, ap, _∙_, subst}
-use mathlib.Core.Bool.{Bool, true, false, cond, _&&_, _||_, false≢true, and-false}
+use mathlib.Core.Bool.{Bool, true, false, cond, _&&_, _||_, false≢true}
 use mathlib.Core.List.{List, [], _∷_, _++_}
 use mathlib.Core.Logic.{⊎-elim}
 use Prim.Native.Nat.{ℕ, zero, suc, pred, _+_, _-_, _*_, _%_, _^_, _≤_, _<_, min, zero-le}
 use native.Mathlib.Nat.{mul-le-mul-left, one-le-pow, add-zero, pow-suc, pow-le-pow-right}
 use native.Mathlib.Numerals.{add-one}
 use native.Mathlib.Omega.{arith}
-use lib.Dec.{eqb, leb, ltb}
+use lib.Dec.{eqb, leb}
 use lib.ListN.{length, take, drop, getD, length-append, length-take}
 use lib.Seq.{drop-drop}
 use lib.IntN.{ℤ, pos}
 use borrow.Author.Tests.{eq-eqb, ne-eqb, eqb-true, eqb-false, le-leb, lt-leb, lt-ltb, le-ltb, leb-true}
-use Rattle.lexis.specs.Sizes.{mantissaEnd, maxWritten}
+use Rattle.lexis.specs.Sizes.{maxNumber, maxWritten, writtenEnd, mantissaDigits, mantissaEnd}
 use Rattle.lexis.specs.Bytes.{among, within, classOf, isDigit, spanLen}
-use Rattle.lexis.specs.Exponents.{exponentOf, isNear}
-use Rattle.lexis.specs.Number.{digits, led, fracLen, partsOf, partsLen, valueFrom, digitsOf, writtenOf, minusOf, Stripped, strip, Reduced}
-use Rattle.lexis.specs.Lexeme.{reducedOf, isSmall, inRange}
-use Rattle.lexis.specs.Push.{noDigits, pushAll, reductionOf}
+use Rattle.lexis.specs.Number.{exponentOf, isNear, digits, led, fracLen, partsOf, partsLen, valueFrom, digitsOf, writtenOf, minusOf, strip, reducedOf, isSmall, inRange, reductionOf}
+use Rattle.lexis.specs.Push.{noDigits, pushAll}
 use Rattle.lexis.specs.declared.number.Parts.{Parts}
 use Rattle.lexis.specs.declared.mantissa.Mantissa.{Mantissa}
 use Rattle.lexis.specs.declared.number.Reduction.{Reduction}
 use Rattle.lexis.specs.declared.number.Reduction.the-variants.{Number, OutOfRange}
 use Rattle.lexis.proofs.Shapes.{parts-le}
 use Rattle.lexis.proofs.Signs.{near-small, cond-small}
-use Rattle.lexis.proofs.Scales.{Bounded, all-bounded}
-use Rattle.lexis.proofs.Reduces.{Digits, Held, held, held-zero, strip-is}
+use Rattle.lexis.proofs.Caps.{all-bounded}
+use Rattle.lexis.proofs.Reduction.{Digits, Held, held, held-zero, strip-is}
 
 -- ---- the bytes of a number's digits are digits
 
@@ -92,12 +90,12 @@ digits-are s =
 
 -- ---- the reduction
 
-pub zeros-small : (s : List ℕ) (p : Parts) (m : Mantissa) → m ≡ pushAll noDigits (digitsOf s p) → p .whole + p .frac + p .exp ≤ 64 → m .zeros ≤ 64
+pub zeros-small : (s : List ℕ) (p : Parts) (m : Mantissa) → m ≡ pushAll noDigits (digitsOf s p) → p .whole + p .frac + p .exp ≤ maxNumber → m .zeros ≤ maxNumber
 zeros-small s p m e h =
     let ds = digitsOf s p in
     let r = all-bounded noDigits 0 ds (record { capped = zero-le; few = zero-le }) in
     let f = take (pred (p .frac)) (drop (p .whole + 1) s) in
-    let l : length ds ≤ 64 = omega (arith, length-append (take (p .whole) s) f, length-take (p .whole) s, length-take (pred (p .frac)) (drop (p .whole + 1) s)) in
+    let l : length ds ≤ maxNumber = omega (arith, length-append (take (p .whole) s) f, length-take (p .whole) s, length-take (pred (p .frac)) (drop (p .whole + 1) s)) in
     rw e (omega (arith, r .few))
 
 module _ (s : List ℕ) (p : Parts) (is : p ≡ partsOf s) (m : Mantissa) (read : m ≡ pushAll noDigits (digitsOf s p)) where
@@ -127,12 +125,12 @@ module _ (s : List ℕ) (p : Parts) (is : p ≡ partsOf s) (m : Mantissa) (read 
       ap (strip (length (digitsOf s p))) (holds .whole) ∙ strip-is (m .zeros) (length (digitsOf s p)) (holds .mantissa) (holds .few) (value-some n) in
       rw (ne-eqb _ 0 (value-pos n), st)
 
-  module _ (w : ℕ) (written : w ≡ min (writtenOf s p) 10000) where
-    pub out-written : 9999 < w → OutOfRange ≡ reductionOf s p
+  module _ (w : ℕ) (written : w ≡ min (writtenOf s p) writtenEnd) where
+    pub out-written : maxWritten < w → OutOfRange ≡ reductionOf s p
     unfolding reductionOf inRange
-    out-written h = rw (lt-leb (writtenOf s p) 9999 (omega arith))
+    out-written h = rw (lt-leb (writtenOf s p) maxWritten (omega arith))
 
-    module _ (fits : w ≤ 9999) where
+    module _ (fits : w ≤ maxWritten) where
       same-written : writtenOf s p ≡ w
       same-written = omega arith
 
@@ -189,17 +187,17 @@ value-below v k (d ∷ ds) t h =
     let e : k + suc (length ds) ≡ k + 1 + length ds = omega arith in
     rw e (value-below (v * 10 + (d - 48)) (k + 1) ds (t .2) below)
 
-short-digits : (s : List ℕ) (p : Parts) → p ≡ partsOf s → length s ≤ 18 → length (digitsOf s p) ≤ 18
+short-digits : (s : List ℕ) (p : Parts) → p ≡ partsOf s → length s ≤ mantissaDigits → length (digitsOf s p) ≤ mantissaDigits
 short-digits s p is h =
     let f = take (pred (p .frac)) (drop (p .whole + 1) s) in
     let n : partsLen p ≤ length s = rw is (parts-le s) in
     omega (arith, length-append (take (p .whole) s) f, length-take (p .whole) s, length-take (pred (p .frac)) (drop (p .whole + 1) s))
 
-short-written : (s : List ℕ) (p : Parts) → p .exp ≡ 0 → 0 ≡ min (writtenOf s p) 10000
+short-written : (s : List ℕ) (p : Parts) → p .exp ≡ 0 → 0 ≡ min (writtenOf s p) writtenEnd
 unfolding writtenOf
 short-written s p e = rw (eq-eqb _ 0 e)
 
-short-small : (s : List ℕ) (p : Parts) → p ≡ partsOf s → length s ≤ 18 → pushAll noDigits (digitsOf s p) .value < mantissaEnd
+short-small : (s : List ℕ) (p : Parts) → p ≡ partsOf s → length s ≤ mantissaDigits → pushAll noDigits (digitsOf s p) .value < mantissaEnd
 short-small s p is h =
     let ds = digitsOf s p in
     let hold = holds s p is (pushAll noDigits ds) refl in
@@ -214,14 +212,14 @@ short-small s p is h =
 abbrev short-exponent : List ℕ → Parts → ℤ
 short-exponent s p = exponentOf (minusOf s p) 0 (pred (p .frac)) (pushAll noDigits (digitsOf s p) .zeros)
 
-short-near : (s : List ℕ) (p : Parts) → p ≡ partsOf s → length s ≤ 18 → isNear (short-exponent s p) ≡ true
+short-near : (s : List ℕ) (p : Parts) → p ≡ partsOf s → length s ≤ mantissaDigits → isNear (short-exponent s p) ≡ true
 short-near s p is h =
     let n : partsLen p ≤ length s = rw is (parts-le s) in
-    let z : pushAll noDigits (digitsOf s p) .zeros ≤ 64 = zeros-small s p (pushAll noDigits (digitsOf s p)) refl (omega arith) in
+    let z : pushAll noDigits (digitsOf s p) .zeros ≤ maxNumber = zeros-small s p (pushAll noDigits (digitsOf s p)) refl (omega arith) in
     let c : cond (minusOf s p) 0 0 ≤ 0 = cond-small (minusOf s p) 0 0 0 zero-le zero-le in
     near-small (cond (minusOf s p) 0 0 + pushAll noDigits (digitsOf s p) .zeros) (cond (minusOf s p) 0 0 + pred (p .frac)) (omega arith) (omega arith)
 
-pub range-short : (s : List ℕ) (p : Parts) → p ≡ partsOf s → p .exp ≡ 0 → length s ≤ 18 → true ≡ inRange s p
+pub range-short : (s : List ℕ) (p : Parts) → p ≡ partsOf s → p .exp ≡ 0 → length s ≤ mantissaDigits → true ≡ inRange s p
 range-short s p is none h = go (eqb (pushAll noDigits (digitsOf s p) .value) 0) refl
   where
     go : (b : Bool) → eqb (pushAll noDigits (digitsOf s p) .value) 0 ≡ b → true ≡ inRange s p

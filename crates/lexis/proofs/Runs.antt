@@ -1,14 +1,12 @@
--- The laws of runs at a position of a text: one more byte, the last, the end. A loop over a run cites them, whatever its test.
--- Assumes nothing.
-use mathlib.Core.Path.{_≡_, refl, sym, ap, _∙_}
-use mathlib.Core.Bool.{Bool, true, false, cond, not}
-use mathlib.Core.List.{List, [], _∷_}
+-- The laws of runs and gaps at a position of a text: one more byte, the last, the end. A loop over a run cites them, whatever its test.
+use mathlib.Core.Path.{_≡_}
+use mathlib.Core.Bool.{Bool, true, false, cond}
+use mathlib.Core.List.{List}
 use Prim.Native.Nat.{ℕ, suc, _+_, _≤_, _<_}
 use native.Mathlib.Nat.{add-zero}
 use native.Mathlib.Numerals.{add-one}
 use native.Mathlib.Omega.{arith}
 use borrow.Author.Tests.{ne-eqb}
-use lib.Dec.{eqb}
 use lib.ListN.{length, drop, getD, drop-of-length-le}
 use lib.Seq.{drop-cons}
 use Rattle.lexis.specs.Bytes.{classOf, spanLen, gapFrom}
@@ -32,11 +30,6 @@ module _ (f : ℕ → Bool) (s : List ℕ) (i : ℕ) where
   span-end h = rw (drop-of-length-le s h) (add-zero i)
 
 module _ (s : List ℕ) (i : ℕ) where
-  -- a byte of a comment
-  pub gap-inside : (b : Bool) → i < length s → b ≡ true → i + gapFrom b (drop i s) ≡ i + 1 + gapFrom (not (eqb (getD s i 0) 10)) (drop (i + 1) s)
-  unfolding gapFrom
-  gap-inside b h t = rw (t, add-one, drop-cons s i 0) (omega arith)
-
   -- white space
   pub gap-space : (b : Bool) → i < length s → b ≡ false → classOf (getD s i 0) ≡ 1 → i + gapFrom b (drop i s) ≡ i + 1 + gapFrom b (drop (i + 1) s)
   unfolding gapFrom
@@ -51,7 +44,3 @@ module _ (s : List ℕ) (i : ℕ) where
   pub gap-stop : (b : Bool) → i < length s → b ≡ false → (classOf (getD s i 0) ≡ 5 → ⊥) → (classOf (getD s i 0) ≡ 1 → ⊥) → i + gapFrom b (drop i s) ≡ i
   unfolding gapFrom
   gap-stop b h t n5 n1 = rw (t, drop-cons s i 0, ne-eqb _ 1 n1, ne-eqb _ 5 n5) (omega arith)
-
-  pub gap-end : (b : Bool) → length s ≤ i → i + gapFrom b (drop i s) ≡ i
-  unfolding gapFrom
-  gap-end b h = rw (drop-of-length-le s h) (add-zero i)

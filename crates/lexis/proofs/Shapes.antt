@@ -1,10 +1,10 @@
--- The shape of a number at a position of a text, as the code finds it out.
--- Assumes nothing.
+-- The shape of a number at a position of a text: each part lies within the text, the parts as the code finds them, the number that they
+-- make, what a shape says.
 use mathlib.Core.Path.{_≡_, refl, sym, ap, _∙_}
 use mathlib.Core.Bool.{Bool, true, false, cond, _||_, false≢true}
 use mathlib.Core.List.{List, [], _∷_}
-use Prim.Native.Nat.{ℕ, zero, suc, _+_, _-_, _≤_, _<_, zero-le, suc-le-suc}
-use native.Mathlib.Nat.{add-zero, le-refl}
+use Prim.Native.Nat.{ℕ, zero, suc, _+_, _-_, _≤_, zero-le, suc-le-suc}
+use native.Mathlib.Nat.{sub-zero, le-refl}
 use native.Mathlib.Omega.{arith}
 use lib.Dec.{eqb, leb}
 use lib.ListN.{length, take, drop, getD, length-drop, length-take}
@@ -12,15 +12,14 @@ use lib.Seq.{drop-drop, getD-drop}
 use borrow.Author.Tests.{eq-eqb, ne-eqb}
 use Rattle.lexis.specs.Sizes.{maxNumber}
 use Rattle.lexis.specs.Bytes.{classOf, isDigit, spanLen}
+use Rattle.lexis.specs.Number.{digits, led, fracLen, signLen, isE, expLen, partsOf, partsLen, sticks, inRange}
+use Rattle.lexis.specs.Lexeme.{numberLexeme}
 use Rattle.lexis.specs.Shapes.{shapeOf}
 use Rattle.lexis.specs.declared.number.Shape.{Shape}
 use Rattle.lexis.specs.declared.number.Shape.the-variants.{Good, Stuck}
-use Rattle.lexis.specs.Number.{digits, led, fracLen, signLen, isE, expLen, partsOf, partsLen}
-use Rattle.lexis.specs.Lexeme.{sticks, inRange, numberLexeme}
 use Rattle.lexis.specs.declared.number.Parts.{Parts}
-use Rattle.lexis.specs.declared.token.Lexeme.{Lexeme}
 use Rattle.lexis.specs.declared.token.Lexeme.the-variants.{Token, Fault}
-use Rattle.lexis.proofs.Fronts.{front, span-le}
+use Rattle.lexis.proofs.Positions.{front, span-le}
 
 led-some : (l d : ℕ) → (d ≡ 0 → ⊥) → led l d ≡ l + d
 led-some l zero h = absurd (h refl)
@@ -174,8 +173,15 @@ module _ (s : List ℕ) (at : ℕ) where
   exp-in x e h = omega (arith, exp-le (drop at s), length-drop at s)
 
   -- the part of the text that is handed on as the number's bytes
-  pub part-short : (n : ℕ) → n ≤ 64 → length (take (at + n - at) (drop at s)) ≤ 64
+  pub part-short : (n : ℕ) → n ≤ maxNumber → length (take (at + n - at) (drop at s)) ≤ maxNumber
   part-short n h = omega (arith, length-take (at + n - at) (drop at s))
+
+-- the parts of the number at the front of a text
+abbrev parts-with : ℕ → ℕ → ℕ → Parts
+parts-with w f x = record { whole = w; frac = f; exp = x }
+
+pub parts-front : (s : List ℕ) (n f x : ℕ) → n ≡ 0 + spanLen isDigit s → f ≡ fracLen (drop n s) → x ≡ expLen (drop (n + f) s) → record { whole = n; frac = f; exp = x } ≡ partsOf s
+parts-front s n f x e ef ex = ap (λ (a : ℕ). parts-with a f x) (sym (sub-zero n)) ∙ parts-are s 0 n f x e ef ex
 
 -- ---- the shape
 

@@ -1,26 +1,35 @@
 -- Signed sums as differences of two natural numbers: every value that a signed local takes is `subℕ a b`, and a law moves each
 -- operation into a or b. So a bound on a signed value is two bounds on natural numbers.
--- Assumes nothing.
 use mathlib.Core.Path.{_≡_, refl, sym, ap, _∙_, subst}
 use mathlib.Core.Bool.{Bool, true, false, cond, not, _&&_}
 use Prim.Native.Nat.{ℕ, zero, suc, _+_, _-_, _^_, _≤_, _<_, zero-le}
-use native.Mathlib.Nat.{sub-zero, add-zero, zero-add}
+use native.Mathlib.Nat.{sub-zero, zero-add}
 use native.Mathlib.Omega.{arith}
 use native.Mathlib.Decide.{decLt}
 use lib.Dec.{ltb, leb}
-use lib.IntN.{ℤ, pos, negsuc, negℤ, subℕ, _+ℤ_, _-ℤ_}
+use lib.IntN.{ℤ, pos, negsuc, subℕ, _+ℤ_, _-ℤ_}
 use lib.Signed.{mag, leZ, ltZ}
 use borrow.Author.Tests.{lt-ltb, le-ltb, le-leb, lt-leb}
-use mir.Syntax.{Width, w32}
-use mir.Val.{SFits, toZ, ofZ, hbits}
+use mir.Syntax.{w32}
+use mir.Val.{SFits, toZ, ofZ}
 use mir.Facts.{toZ-ofZ, toZ-pos}
-use Rattle.lexis.specs.Exponents.{isNear}
+use Rattle.lexis.specs.Sizes.{maxNumber, maxWritten}
+use Rattle.lexis.specs.Number.{isNear}
 
 sub-lt : (a b : ℕ) → a < b → subℕ a b ≡ negsuc (b - suc a)
 sub-lt a b h = rw (lt-ltb a b h)
 
 sub-ge : (a b : ℕ) → b ≤ a → subℕ a b ≡ pos (a - b)
 sub-ge a b h = rw (le-ltb a b h)
+
+pos-same : {m n : ℕ} → pos m ≡ pos n → m ≡ n
+pos-same e = cc
+
+negsuc-same : {m n : ℕ} → negsuc m ≡ negsuc n → m ≡ n
+negsuc-same e = cc
+
+apart : {m n : ℕ} → pos m ≡ negsuc n → ⊥
+apart e = let z : _≡_ {A = ℕ} 0 1 = cc in omega arith
 
 -- two differences are equal where the sums across are
 pub sub-same : (a b c d : ℕ) → a + d ≡ c + b → subℕ a b ≡ subℕ c d
@@ -29,6 +38,20 @@ sub-same a b c d e = go (decLt a b)
     go : Dec (a < b) → subℕ a b ≡ subℕ c d
     go (yes l) = sub-lt a b l ∙ ap negsuc (omega arith) ∙ sym (sub-lt c d (omega arith))
     go (no n) = sub-ge a b (omega arith) ∙ ap pos (omega arith) ∙ sym (sub-ge c d (omega arith))
+
+-- and only there
+pub sub-across : (a b c d : ℕ) → subℕ a b ≡ subℕ c d → a + d ≡ c + b
+sub-across a b c d e = go (decLt a b) (decLt c d)
+  where
+    go : Dec (a < b) → Dec (c < d) → a + d ≡ c + b
+    go (yes l) (yes m) = let z : b - suc a ≡ d - suc c = negsuc-same (sym (sub-lt a b l) ∙ e ∙ sub-lt c d m) in omega arith
+    go (yes l) (no m) = let h : d ≤ c = omega arith in absurd (apart (sym (sub-ge c d h) ∙ sym e ∙ sub-lt a b l))
+    go (no l) (yes m) = let h : b ≤ a = omega arith in absurd (apart (sym (sub-ge a b h) ∙ e ∙ sub-lt c d m))
+    go (no l) (no m) =
+        let h : b ≤ a = omega arith in
+        let k : d ≤ c = omega arith in
+        let z : a - b ≡ c - d = pos-same (sym (sub-ge a b h) ∙ e ∙ sub-ge c d k) in
+        omega arith
 
 pub pos-sub : (n : ℕ) → pos n ≡ subℕ n 0
 pos-sub n = sym (sub-ge n 0 zero-le ∙ ap pos (sub-zero n))
@@ -75,7 +98,7 @@ pub neg-is : (n : ℕ) → n < 2 ^ 31 → pos 0 -ℤ toZ w32 n ≡ subℕ 0 n
 neg-is n h =
     ap (λ (z : ℤ). pos 0 -ℤ z) (toZ-pos w32 h) ∙ ap (λ (z : ℤ). z -ℤ pos n) (pos-sub 0) ∙ sub-sub 0 0 n ∙ ap (subℕ 0) (zero-add n)
 
-module _ (a b p z : ℕ) (ha : a ≤ 9999) (hb : b ≤ 9999) (hp : p ≤ 64) (hz : z ≤ 64) (r : ℤ) (is : r ≡ subℕ a b) where
+module _ (a b p z : ℕ) (ha : a ≤ maxWritten) (hb : b ≤ maxWritten) (hp : p ≤ maxNumber) (hz : z ≤ maxNumber) (r : ℤ) (is : r ≡ subℕ a b) where
   diff : toZ w32 (ofZ w32 r) -ℤ toZ w32 p ≡ subℕ a (b + p)
   diff =
       ap (λ (y : ℤ). toZ w32 (ofZ w32 y) -ℤ toZ w32 p) is ∙ ap (λ (y : ℤ). y -ℤ toZ w32 p) (back a b (omega arith) (omega arith))
@@ -115,7 +138,7 @@ not-ltZ (negsuc a) (pos b) = refl
 not-ltZ (negsuc a) (negsuc b) = not-ltb b a
 
 -- a difference of numbers to 64 is near
-pub near-small : (a b : ℕ) → a ≤ 64 → b ≤ 64 → isNear (subℕ a b) ≡ true
+pub near-small : (a b : ℕ) → a ≤ maxNumber → b ≤ maxNumber → isNear (subℕ a b) ≡ true
 unfolding isNear
 near-small a b h k = go (decLt a b)
   where

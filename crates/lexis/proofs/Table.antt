@@ -1,11 +1,9 @@
--- The table of classes: its entry at each byte value, by one induction over the row.
--- Assumes nothing.
-use mathlib.Core.Path.{_≡_, refl, sym, ap, _∙_}
-use mathlib.Core.Bool.{Bool, true, false, cond, _&&_, _||_}
-use mathlib.Core.List.{List, [], _∷_}
+-- The table of classes: its entry at each byte value, by one induction over the row. Relies on `Bytes` of the specs alone.
+use mathlib.Core.Path.{_≡_, sym, ap, _∙_}
+use mathlib.Core.List.{List}
 use Prim.Native.Nat.{ℕ, zero, suc, _+_, _<_}
 use native.Mathlib.Nat.{add-zero, zero-add, add-suc, suc-add, le-of-suc-le-suc, not-suc-le-zero}
-use lib.ListN.{length, getD}
+use lib.ListN.{getD}
 use Rattle.lexis.specs.Bytes.{classOf, classesFrom, classTable}
 
 row-at : (n b k : ℕ) → k < n → getD (classesFrom n b) k 0 ≡ classOf (b + k)

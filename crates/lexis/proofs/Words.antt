@@ -1,15 +1,14 @@
--- The search for a word among those that have its first byte and its length.
--- Assumes nothing.
+-- The search for a word among those that have its first byte and its length; where none has, a word is a name.
 use mathlib.Core.Path.{_≡_, refl, sym, ap, _∙_}
 use mathlib.Core.Bool.{Bool, true, false, cond, _&&_}
 use mathlib.Core.List.{List, [], _∷_}
-use Prim.Native.Nat.{ℕ, suc, _≤_, _<_}
+use Prim.Native.Nat.{ℕ}
 use native.Mathlib.Omega.{arith}
 use lib.Dec.{eqb}
 use lib.ListN.{length, getD}
-use borrow.Author.Tests.{eq-eqb, ne-eqb, eqb-true, eqb-false}
+use borrow.Author.Tests.{ne-eqb, eqb-false}
 use Rattle.lexis.specs.Words.{Word, words, sameBytes, kindIn}
-use Rattle.lexis.proofs.Texts.{same-lengths}
+use Rattle.lexis.proofs.Spellings.{same-lengths}
 
 unfoldable pub keep : Bool → Word → List Word → List Word
 keep true x xs = x ∷ xs
@@ -45,71 +44,17 @@ kind-picked w (x ∷ xs) = go (eqb (getD w 0 0) (getD (x .spelling) 0 0)) (eqb (
 pub kind-by : (w : List ℕ) (f n : ℕ) → getD w 0 0 ≡ f → length w ≡ n → kindIn words w ≡ kindIn (picked f n words) w
 kind-by w f n e l = kind-picked w words ∙ ap (λ (a : ℕ). kindIn (picked a (length w) words) w) e ∙ ap (λ (a : ℕ). kindIn (picked f a words) w) l
 
-kind-none : (w : List ℕ) (f n : ℕ) → getD w 0 0 ≡ f → length w ≡ n → picked f n words ≡ [] → 1 ≡ kindIn words w
+-- no word has first byte f and the length of w
+pub kind-none : (w : List ℕ) (f : ℕ) → getD w 0 0 ≡ f → picked f (length w) words ≡ [] → 1 ≡ kindIn words w
 unfolding kindIn
-kind-none w f n e l p = sym (kind-by w f n e l ∙ ap (λ (l : List Word). kindIn l w) p)
+kind-none w f e p = sym (kind-by w f (length w) e refl ∙ ap (λ (l : List Word). kindIn l w) p)
 
--- no word has first byte f and another length
-pub none-116 : (w : List ℕ) → getD w 0 0 ≡ 116 → (length w ≡ 4 → ⊥) → (length w ≡ 6 → ⊥) → 1 ≡ kindIn words w
-unfolding picked keep words
-none-116 w e n4 n6 =
-    let none : picked 116 (length w) words ≡ [] = rw (ne-eqb _ 4 n4, ne-eqb _ 6 n6) in
-    kind-none w 116 (length w) e refl none
-
-pub none-102 : (w : List ℕ) → getD w 0 0 ≡ 102 → (length w ≡ 5 → ⊥) → (length w ≡ 8 → ⊥) → (length w ≡ 3 → ⊥) → 1 ≡ kindIn words w
-unfolding picked keep words
-none-102 w e n5 n8 n3 =
-    let none : picked 102 (length w) words ≡ [] = rw (ne-eqb _ 5 n5, ne-eqb _ 8 n8, ne-eqb _ 3 n3) in
-    kind-none w 102 (length w) e refl none
-
-pub none-103 : (w : List ℕ) → getD w 0 0 ≡ 103 → (length w ≡ 5 → ⊥) → 1 ≡ kindIn words w
-unfolding picked keep words
-none-103 w e n5 =
-    let none : picked 103 (length w) words ≡ [] = rw (ne-eqb _ 5 n5) in
-    kind-none w 103 (length w) e refl none
-
-pub none-101 : (w : List ℕ) → getD w 0 0 ≡ 101 → (length w ≡ 6 → ⊥) → (length w ≡ 4 → ⊥) → 1 ≡ kindIn words w
-unfolding picked keep words
-none-101 w e n6 n4 =
-    let none : picked 101 (length w) words ≡ [] = rw (ne-eqb _ 6 n6, ne-eqb _ 4 n4) in
-    kind-none w 101 (length w) e refl none
-
-pub none-115 : (w : List ℕ) → getD w 0 0 ≡ 115 → (length w ≡ 6 → ⊥) → (length w ≡ 8 → ⊥) → 1 ≡ kindIn words w
-unfolding picked keep words
-none-115 w e n6 n8 =
-    let none : picked 115 (length w) words ≡ [] = rw (ne-eqb _ 6 n6, ne-eqb _ 8 n8) in
-    kind-none w 115 (length w) e refl none
-
-pub none-108 : (w : List ℕ) → getD w 0 0 ≡ 108 → (length w ≡ 7 → ⊥) → (length w ≡ 9 → ⊥) → 1 ≡ kindIn words w
-unfolding picked keep words
-none-108 w e n7 n9 =
-    let none : picked 108 (length w) words ≡ [] = rw (ne-eqb _ 7 n7, ne-eqb _ 9 n9) in
-    kind-none w 108 (length w) e refl none
-
-pub none-114 : (w : List ℕ) → getD w 0 0 ≡ 114 → (length w ≡ 8 → ⊥) → 1 ≡ kindIn words w
-unfolding picked keep words
-none-114 w e n8 =
-    let none : picked 114 (length w) words ≡ [] = rw (ne-eqb _ 8 n8) in
-    kind-none w 114 (length w) e refl none
-
-pub none-105 : (w : List ℕ) → getD w 0 0 ≡ 105 → (length w ≡ 2 → ⊥) → 1 ≡ kindIn words w
-unfolding picked keep words
-none-105 w e n2 =
-    let none : picked 105 (length w) words ≡ [] = rw (ne-eqb _ 2 n2) in
-    kind-none w 105 (length w) e refl none
-
-pub none-118 : (w : List ℕ) → getD w 0 0 ≡ 118 → (length w ≡ 7 → ⊥) → 1 ≡ kindIn words w
-unfolding picked keep words
-none-118 w e n7 =
-    let none : picked 118 (length w) words ≡ [] = rw (ne-eqb _ 7 n7) in
-    kind-none w 118 (length w) e refl none
-
--- no word has another first byte
+-- no word has another first byte than these
 pub none-else : (w : List ℕ) → (getD w 0 0 ≡ 116 → ⊥) → (getD w 0 0 ≡ 102 → ⊥) → (getD w 0 0 ≡ 103 → ⊥) → (getD w 0 0 ≡ 101 → ⊥) → (getD w 0 0 ≡ 115 → ⊥) → (getD w 0 0 ≡ 108 → ⊥) → (getD w 0 0 ≡ 114 → ⊥) → (getD w 0 0 ≡ 105 → ⊥) → (getD w 0 0 ≡ 118 → ⊥) → 1 ≡ kindIn words w
 unfolding picked keep words
 none-else w n116 n102 n103 n101 n115 n108 n114 n105 n118 =
     let none : picked (getD w 0 0) (length w) words ≡ [] = rw (ne-eqb _ 116 n116, ne-eqb _ 102 n102, ne-eqb _ 103 n103, ne-eqb _ 101 n101, ne-eqb _ 115 n115, ne-eqb _ 108 n108, ne-eqb _ 114 n114, ne-eqb _ 105 n105, ne-eqb _ 118 n118) in
-    kind-none w (getD w 0 0) (length w) refl refl none
+    kind-none w (getD w 0 0) refl none
 
 pub kind-empty : (w : List ℕ) → length w ≡ 0 → 1 ≡ kindIn words w
 unfolding kindIn words sameBytes

@@ -1,11 +1,9 @@
--- The shape of the number at the front of a text, as the code finds it.
--- Assumes nothing.
+-- The shape of the number at the front of a text, as the code finds it. Relies on `Number`.
 use Prim.Native.Nat.{ℕ}
 use mathlib.Core.Bool.{cond}
 use mathlib.Core.List.{List}
 use lib.ListN.{getD}
-use Rattle.lexis.specs.Number.{partsOf, partsLen}
-use Rattle.lexis.specs.Lexeme.{sticks}
+use Rattle.lexis.specs.Number.{partsOf, partsLen, sticks}
 use Rattle.lexis.specs.declared.number.Shape.{Shape}
 use Rattle.lexis.specs.declared.number.Shape.the-variants.{Good, Stuck}
 

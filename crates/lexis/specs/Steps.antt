@@ -1,11 +1,12 @@
--- What the token cursor finds at a place of a text.
--- Assumes nothing.
-use Prim.Native.Nat.{ℕ, suc, _+_}
-use mathlib.Core.Bool.{Bool, cond}
-use mathlib.Core.List.{List, [], _∷_}
+-- What the token cursor finds at a place of a text. Relies on `Bytes` for gaps and `Lexeme` for a token.
+use Prim.Native.Nat.{ℕ, _+_}
+use mathlib.Core.Bool.{cond}
+use mathlib.Core.List.{List}
 use lib.Dec.{leb, ltb, eqb}
 use lib.ListN.{length, drop, getD}
 use Rattle.lexis.specs.Sizes.{maxTokens}
+use Rattle.lexis.specs.Code as Code
+use Rattle.lexis.specs.Class as Class
 use Rattle.lexis.specs.Bytes.{classOf, spanLen}
 use Rattle.lexis.specs.Runs.{passes}
 use Rattle.lexis.specs.Lexeme.{lexeme}
@@ -22,7 +23,7 @@ abbrev pub stepTo : Lexeme → ℕ → ℕ → Step
 stepTo (L.Fault c) start count = Fault c start
 stepTo (L.Token k n) start count =
     cond (ltb count maxTokens) (Next (record { kind = k; start = start; end = start + n }) (record { at = start + n; count = count + 1 }))
-    (Fault 8 start)
+    (Fault Code.tooMany start)
 
 -- past the byte at the cursor and the run after it
 abbrev pub gapTo : Run → List ℕ → Cursor → Step
@@ -33,4 +34,4 @@ unfoldable pub stepAt : List ℕ → Cursor → Step
 stepAt text c =
     let k = classOf (getD text (c .at) 0) in
     let token = stepTo (lexeme (drop (c .at) text)) (c .at) (c .count) in
-    cond (leb (length text) (c .at)) End (cond (eqb k 1) (gapTo Spaces text c) (cond (eqb k 5) (gapTo Comment text c) token))
+    cond (leb (length text) (c .at)) End (cond (eqb k Class.space) (gapTo Spaces text c) (cond (eqb k Class.comment) (gapTo Comment text c) token))

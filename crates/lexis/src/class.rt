@@ -1,9 +1,35 @@
-// The class of every byte value, in one table. A constant array is built on the stack where it is named, so the public operation
-// names it once, and lends it to all that look a byte up.
+// The class of every byte value, in one table: what a byte can begin.
 ghost use mathlib.Core.Path.{_≡_};
 ghost use Rattle.lexis.specs.Bytes.{classOf, classTable};
 
-pub const CLASS: [u8; 256] = [
+pub struct Class {}
+
+impl Class {
+    pub const SPACE: u8 = 1;
+
+    pub const DIGIT: u8 = 2;
+
+    // A letter or the underscore.
+    pub const LETTER: u8 = 3;
+
+    pub const QUOTE: u8 = 4;
+
+    // The sign that begins a comment.
+    pub const COMMENT: u8 = 5;
+
+    // An operator when it stands alone.
+    pub const OPERATOR: u8 = 6;
+
+    // A syntactic character when it stands alone.
+    pub const SYNTACTIC: u8 = 7;
+
+    // An operator only when it stands twice.
+    pub const TWICE: u8 = 8;
+}
+
+// A constant array is built on the stack where it is named: name it once, in the outermost function, and lend it to all that look a
+// byte up.
+pub const CLASSES: [u8; 256] = [
     0,
     0,
     0,
@@ -262,8 +288,7 @@ pub const CLASS: [u8; 256] = [
     0,
 ];
 
-// The class of a byte: 1 white space, 2 digit, 3 letter or underscore, 4 quote, 5 comment sign, 6 operator, 7 syntactic character,
-// 8 first byte of a pair only, 0 any other.
+// The class of a byte, 0 where it begins nothing.
 pub fn class_of(classes: &[u8; 256], b: u8) -> u8
     requires { ⌜ now classes ≡ classTable ⌝ }
     ensures { λ r. ⌜ r ≡ classOf b ⌝ }

@@ -1,5 +1,7 @@
 // The token cursor.
+use crate::class::Class;
 use crate::class::class_of;
+use crate::code::Code;
 use crate::limits::Limits;
 use crate::span::Run;
 use crate::span::run_end;
@@ -31,12 +33,14 @@ pub enum Step {
 }
 
 impl Cursor {
+    // The start of a text.
     pub fn new() -> Self
         ensures { λ r. ⌜ r ≡ record { at = 0; count = 0 } ⌝ }
     {
         Cursor { at: 0, count: 0 }
     }
 
+    // What stands at the cursor, with the next cursor.
     pub fn next(self, classes: &[u8; 256], text: &[u8]) -> Step
         requires { ⌜ now classes ≡ classTable ⌝ }
         ensures { λ r. ⌜ r ≡ stepAt (now (text .entry)) self ⌝ }
@@ -47,14 +51,14 @@ impl Cursor {
             return Step::End;
         }
         let k = class_of(classes, text[at]);
-        if k == 1 {
+        if k == Class::SPACE {
             let end = run_end(classes, text, at + 1, Run::Spaces);
             return Step::Gap(Cursor {
                 at: end,
                 count: count,
             });
         }
-        if k == 5 {
+        if k == Class::COMMENT {
             let end = run_end(classes, text, at + 1, Run::Comment);
             return Step::Gap(Cursor {
                 at: end,
@@ -65,7 +69,10 @@ impl Cursor {
             Lexeme::Fault(code) => Step::Fault { code: code, at: at },
             Lexeme::Token { kind, len } => {
                 if !Limits::token_fits(count) {
-                    return Step::Fault { code: 8, at: at };
+                    return Step::Fault {
+                        code: Code::TOO_MANY,
+                        at: at,
+                    };
                 }
                 Step::Next(
                     Record {

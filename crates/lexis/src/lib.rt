@@ -1,15 +1,18 @@
-// The lexer of document 01: text bytes to a table of token records.
+// The lexer: the bytes of a text into a table of token records.
 pub mod class;
-pub mod cursor;
-pub mod exponent;
+pub mod code;
+mod cursor;
+mod exponent;
+pub mod kind;
 pub mod limits;
-pub mod mantissa;
+mod mantissa;
 pub mod number;
-pub mod span;
-pub mod token;
+mod span;
+mod token;
 pub mod word;
 
-use class::CLASS;
+use class::CLASSES;
+use code::Code;
 use cursor::Cursor;
 use cursor::Step;
 use limits::Limits;
@@ -17,9 +20,10 @@ ghost use mathlib.Core.Path.{_≡_};
 ghost use lib.Seq.{paste};
 ghost use Prim.Native.Nat.{_*_, _≤_, min};
 ghost use lib.ListN.{length};
-ghost use Rattle.lexis.specs.Answers.{tokensAnswer, tokensTable, countedAfter, answerOf, storedFrom, Written, Room};
+ghost use Rattle.lexis.specs.Answer.{tokensAnswer, tokensTable, counted, answerOf, stored, Written, Room};
 ghost use Rattle.lexis.specs.Bytes.{classTable};
-ghost use Rattle.lexis.specs.Lex.{lex};
+ghost use Rattle.lexis.specs.Lexer.{lex};
+ghost use Rattle.lexis.specs.Sizes.{maxText, maxTokens, tokenWords, tableWords};
 
 // The four numbers of an answer.
 #[repr(C)]
@@ -30,42 +34,64 @@ pub struct Answer {
     pub detail: u32,
 }
 
-fn wide(x: u8) -> u32
-    ensures { λ r. ⌜ r ≡ x ⌝ }
-{
-    x as u32
-}
-
-fn narrow(x: usize) -> u32
-    requires { ⌜ x ≤ 16384 ⌝ }
-    ensures { λ r. ⌜ r ≡ x ⌝ }
-{
-    x as u32
-}
-
 // What the lexer finds: how many tokens there are, or the first fault.
 pub enum Counted {
     Tokens(u32),
     Fault { code: u32, at: u32 },
 }
 
-// The records of a text, written as they are found. On a fault the table holds anything.
-fn lex_into(classes: &[u8; 256], text: &[u8], table: &mut [u32]) -> Counted
+// The operation: the tokens of a text into a lent table. The work is done in a work area of its own, so that a refusal writes nothing.
+pub fn tokens(text: &[u8], table: &mut [u32]) -> Answer
+    ensures { λ r. ⌜ r ≡ tokensAnswer (now (text .entry)) (now (table .entry)) ⌝ }
+    ensures { λ _. ⌜ now (table .exit) ≡ tokensTable (now (text .entry)) (now (table .entry)) ⌝ }
+{
+    if !Limits::table_serves(table.len()) {
+        return Answer {
+            code: Code::SHORT_TABLE,
+            text: 0,
+            position: 0,
+            detail: 0,
+        };
+    }
+    if !Limits::text_fits(text.len()) {
+        let end = Limits::TEXT as u32;
+        return Answer {
+            code: Code::LONG_TEXT,
+            text: 1,
+            position: end,
+            detail: 0,
+        };
+    }
+    if text.len() <= 128 {
+        return tokens_tiny(text, table);
+    }
+    if text.len() <= 512 {
+        return tokens_short(text, table);
+    }
+    if text.len() <= 2048 {
+        return tokens_middle(text, table);
+    }
+    tokens_long(text, table)
+}
+
+// The records of a text of at most 16384 bytes, written in front of a work area as they are found. On a fault the work area holds
+// anything, and is as long as before.
+pub fn lex_into(classes: &[u8; 256], text: &[u8], work: &mut [u32]) -> Counted
     requires { ⌜ now classes ≡ classTable ⌝ }
-    requires { ⌜ length (now text) ≤ 16384 ⌝ }
-    requires { ⌜ 3 * min (length (now text)) 4096 ≤ length (now table) ⌝ }
-    ensures { λ r. ⌜ r ≡ countedAfter 0 (lex (now (text .entry))) ⌝ }
-    ensures { λ _. ⌜ Written (lex (now (text .entry))) (now (table .entry)) (now (table .exit)) ⌝ }
-    ensures { λ r. ⌜ Room r (length (now (table .entry))) ⌝ }
+    requires { ⌜ length (now text) ≤ maxText ⌝ }
+    requires { ⌜ tokenWords * min (length (now text)) maxTokens ≤ length (now work) ⌝ }
+    ensures { λ r. ⌜ r ≡ counted (lex (now (text .entry))) ⌝ }
+    ensures { λ _. ⌜ Written (lex (now (text .entry))) (now (work .entry)) (now (work .exit)) ⌝ }
+    ensures { λ r. ⌜ Room r (length (now (work .entry))) ⌝ }
 {
     let mut c = Cursor::new();
     loop {
         match c.next(classes, text) {
             Step::Next(r, d) => {
-                let i = c.count * 3;
-                table[i] = wide(r.kind);
-                table[i + 1] = narrow(r.start);
-                table[i + 2] = narrow(r.end);
+                let i = c.count * Limits::TOKEN_WORDS;
+                work[i] = wide(r.kind);
+                work[i + 1] = narrow(r.start);
+                work[i + 2] = narrow(r.end);
                 c = d;
             }
             Step::Gap(d) => {
@@ -84,36 +110,56 @@ fn lex_into(classes: &[u8; 256], text: &[u8], table: &mut [u32]) -> Counted
     }
 }
 
-// The first n words of `from` in the place of those of `to`.
-fn copy(from: &[u32], to: &mut [u32], n: usize)
-    requires { ⌜ n ≤ length (now from) ⌝ }
-    requires { ⌜ n ≤ length (now to) ⌝ }
-    ensures { λ _. ⌜ now (to .exit) ≡ paste (now (to .entry)) 0 (now (from .entry)) n ⌝ }
+// Work areas by the size of the text: a work area is cleared when it is made, so a short text gets a short one.
+fn tokens_tiny(text: &[u8], table: &mut [u32]) -> Answer
+    requires { ⌜ length (now text) ≤ 128 ⌝ }
+    requires { ⌜ tableWords ≤ length (now table) ⌝ }
+    ensures { λ r. ⌜ r ≡ answerOf (counted (lex (now (text .entry)))) ⌝ }
+    ensures { λ _. ⌜ now (table .exit) ≡ stored (now (table .entry)) (lex (now (text .entry))) ⌝ }
 {
-    let mut i = 0;
-    while i < n {
-        to[i] = from[i];
-        i += 1;
-    }
+    let mut tiny = [0u32; 384];
+    tokens_by(text, &mut tiny, table)
 }
 
-fn words_of(n: u32) -> usize
-    requires { ⌜ n ≤ 4096 ⌝ }
-    ensures { λ r. ⌜ r ≡ n * 3 ⌝ }
+fn tokens_short(text: &[u8], table: &mut [u32]) -> Answer
+    requires { ⌜ length (now text) ≤ 512 ⌝ }
+    requires { ⌜ tableWords ≤ length (now table) ⌝ }
+    ensures { λ r. ⌜ r ≡ answerOf (counted (lex (now (text .entry)))) ⌝ }
+    ensures { λ _. ⌜ now (table .exit) ≡ stored (now (table .entry)) (lex (now (text .entry))) ⌝ }
 {
-    let m = n as usize;
-    m * 3
+    let mut short = [0u32; 1536];
+    tokens_by(text, &mut short, table)
+}
+
+fn tokens_middle(text: &[u8], table: &mut [u32]) -> Answer
+    requires { ⌜ length (now text) ≤ 2048 ⌝ }
+    requires { ⌜ tableWords ≤ length (now table) ⌝ }
+    ensures { λ r. ⌜ r ≡ answerOf (counted (lex (now (text .entry)))) ⌝ }
+    ensures { λ _. ⌜ now (table .exit) ≡ stored (now (table .entry)) (lex (now (text .entry))) ⌝ }
+{
+    let mut middle = [0u32; 6144];
+    tokens_by(text, &mut middle, table)
+}
+
+fn tokens_long(text: &[u8], table: &mut [u32]) -> Answer
+    requires { ⌜ length (now text) ≤ maxText ⌝ }
+    requires { ⌜ tableWords ≤ length (now table) ⌝ }
+    ensures { λ r. ⌜ r ≡ answerOf (counted (lex (now (text .entry)))) ⌝ }
+    ensures { λ _. ⌜ now (table .exit) ≡ stored (now (table .entry)) (lex (now (text .entry))) ⌝ }
+{
+    let mut long = [0u32; Limits::TABLE_WORDS];
+    tokens_by(text, &mut long, table)
 }
 
 // The answer of a text by way of a work area, and its records in the table where there is no fault.
 fn tokens_by(text: &[u8], work: &mut [u32], table: &mut [u32]) -> Answer
-    requires { ⌜ length (now text) ≤ 16384 ⌝ }
-    requires { ⌜ 3 * min (length (now text)) 4096 ≤ length (now work) ⌝ }
-    requires { ⌜ 12288 ≤ length (now table) ⌝ }
-    ensures { λ r. ⌜ r ≡ answerOf (countedAfter 0 (lex (now (text .entry)))) ⌝ }
-    ensures { λ _. ⌜ now (table .exit) ≡ storedFrom 0 (now (table .entry)) (lex (now (text .entry))) ⌝ }
+    requires { ⌜ length (now text) ≤ maxText ⌝ }
+    requires { ⌜ tokenWords * min (length (now text)) maxTokens ≤ length (now work) ⌝ }
+    requires { ⌜ tableWords ≤ length (now table) ⌝ }
+    ensures { λ r. ⌜ r ≡ answerOf (counted (lex (now (text .entry)))) ⌝ }
+    ensures { λ _. ⌜ now (table .exit) ≡ stored (now (table .entry)) (lex (now (text .entry))) ⌝ }
 {
-    let classes = CLASS;
+    let classes = CLASSES;
     match lex_into(&classes, text, &mut *work) {
         Counted::Tokens(n) => {
             copy(work, table, words_of(n));
@@ -133,76 +179,39 @@ fn tokens_by(text: &[u8], work: &mut [u32], table: &mut [u32]) -> Answer
     }
 }
 
-// Work areas by the size of the text: a work area is cleared when it is made, so a short text gets a short one.
-fn tokens_tiny(text: &[u8], table: &mut [u32]) -> Answer
-    requires { ⌜ length (now text) ≤ 128 ⌝ }
-    requires { ⌜ 12288 ≤ length (now table) ⌝ }
-    ensures { λ r. ⌜ r ≡ answerOf (countedAfter 0 (lex (now (text .entry)))) ⌝ }
-    ensures { λ _. ⌜ now (table .exit) ≡ storedFrom 0 (now (table .entry)) (lex (now (text .entry))) ⌝ }
+// The first n words of `from` in the place of those of `to`.
+fn copy(from: &[u32], to: &mut [u32], n: usize)
+    requires { ⌜ n ≤ length (now from) ⌝ }
+    requires { ⌜ n ≤ length (now to) ⌝ }
+    ensures { λ _. ⌜ now (to .exit) ≡ paste (now (to .entry)) 0 (now (from .entry)) n ⌝ }
 {
-    let mut work = [0u32; 384];
-    tokens_by(text, &mut work, table)
+    let mut i = 0;
+    while i < n {
+        to[i] = from[i];
+        i += 1;
+    }
 }
 
-fn tokens_short(text: &[u8], table: &mut [u32]) -> Answer
-    requires { ⌜ length (now text) ≤ 512 ⌝ }
-    requires { ⌜ 12288 ≤ length (now table) ⌝ }
-    ensures { λ r. ⌜ r ≡ answerOf (countedAfter 0 (lex (now (text .entry)))) ⌝ }
-    ensures { λ _. ⌜ now (table .exit) ≡ storedFrom 0 (now (table .entry)) (lex (now (text .entry))) ⌝ }
+// The words of n token records.
+fn words_of(n: u32) -> usize
+    requires { ⌜ n ≤ maxTokens ⌝ }
+    ensures { λ r. ⌜ r ≡ n * tokenWords ⌝ }
 {
-    let mut work = [0u32; 1536];
-    tokens_by(text, &mut work, table)
+    let m = n as usize;
+    m * Limits::TOKEN_WORDS
 }
 
-fn tokens_middle(text: &[u8], table: &mut [u32]) -> Answer
-    requires { ⌜ length (now text) ≤ 2048 ⌝ }
-    requires { ⌜ 12288 ≤ length (now table) ⌝ }
-    ensures { λ r. ⌜ r ≡ answerOf (countedAfter 0 (lex (now (text .entry)))) ⌝ }
-    ensures { λ _. ⌜ now (table .exit) ≡ storedFrom 0 (now (table .entry)) (lex (now (text .entry))) ⌝ }
+// A code or a kind as a word.
+fn wide(x: u8) -> u32
+    ensures { λ r. ⌜ r ≡ x ⌝ }
 {
-    let mut work = [0u32; 6144];
-    tokens_by(text, &mut work, table)
+    x as u32
 }
 
-fn tokens_long(text: &[u8], table: &mut [u32]) -> Answer
-    requires { ⌜ length (now text) ≤ 16384 ⌝ }
-    requires { ⌜ 12288 ≤ length (now table) ⌝ }
-    ensures { λ r. ⌜ r ≡ answerOf (countedAfter 0 (lex (now (text .entry)))) ⌝ }
-    ensures { λ _. ⌜ now (table .exit) ≡ storedFrom 0 (now (table .entry)) (lex (now (text .entry))) ⌝ }
+// A position or a count as a word.
+fn narrow(x: usize) -> u32
+    requires { ⌜ x ≤ maxText ⌝ }
+    ensures { λ r. ⌜ r ≡ x ⌝ }
 {
-    let mut work = [0u32; 12288];
-    tokens_by(text, &mut work, table)
-}
-
-// The token table of a text.
-pub fn tokens(text: &[u8], table: &mut [u32]) -> Answer
-    ensures { λ r. ⌜ r ≡ tokensAnswer (now (text .entry)) (now (table .entry)) ⌝ }
-    ensures { λ _. ⌜ now (table .exit) ≡ tokensTable (now (text .entry)) (now (table .entry)) ⌝ }
-{
-    if !Limits::table_serves(table.len()) {
-        return Answer {
-            code: 1,
-            text: 0,
-            position: 0,
-            detail: 0,
-        };
-    }
-    if !Limits::text_fits(text.len()) {
-        return Answer {
-            code: 2,
-            text: 1,
-            position: 16384,
-            detail: 0,
-        };
-    }
-    if text.len() <= 128 {
-        return tokens_tiny(text, table);
-    }
-    if text.len() <= 512 {
-        return tokens_short(text, table);
-    }
-    if text.len() <= 2048 {
-        return tokens_middle(text, table);
-    }
-    tokens_long(text, table)
+    x as u32
 }

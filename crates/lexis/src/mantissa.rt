@@ -3,7 +3,8 @@ use crate::limits::Limits;
 ghost use mathlib.Core.Path.{_≡_};
 ghost use Prim.Native.Nat.{_+_, _-_, _*_, _^_, _≤_, min};
 ghost use lib.ListN.{length, take, drop};
-ghost use Rattle.lexis.specs.Sizes.{mantissaEnd};
+ghost use Rattle.lexis.specs.Sizes.{maxNumber, writtenEnd, mantissaEnd};
+ghost use Rattle.lexis.specs.Ascii.{byte};
 ghost use Rattle.lexis.specs.Number.{valueFrom};
 ghost use Rattle.lexis.specs.Push.{push, pushAll};
 
@@ -13,16 +14,18 @@ pub struct Mantissa {
     pub zeros: usize,
 }
 
+// The number of a digit.
 fn digit_of(b: u8) -> u64
-    ensures { λ r. ⌜ r ≡ b - 48 ⌝ }
+    ensures { λ r. ⌜ r ≡ b - byte "0" ⌝ }
 {
-    if b < 48 {
+    if b < b'0' {
         return 0;
     }
-    let d = b - 48;
+    let d = b - b'0';
     d as u64
 }
 
+// x, at most the cap.
 fn capped(x: u64) -> u64
     ensures { λ r. ⌜ r ≡ min x mantissaEnd ⌝ }
 {
@@ -49,12 +52,12 @@ fn scaled(x: u64, n: usize) -> u64
 // One digit more.
 pub fn pushed(m: Mantissa, b: u8) -> Mantissa
     requires { ⌜ m .value ≤ mantissaEnd ⌝ }
-    requires { ⌜ m .zeros ≤ 128 ⌝ }
+    requires { ⌜ m .zeros ≤ maxNumber + maxNumber ⌝ }
     ensures { λ r. ⌜ r ≡ push m b ⌝ }
 {
     let value = m.value;
     let zeros = m.zeros;
-    if b == 48 {
+    if b == b'0' {
         if value == 0 {
             return m;
         }
@@ -63,6 +66,7 @@ pub fn pushed(m: Mantissa, b: u8) -> Mantissa
             zeros: zeros + 1,
         };
     }
+    // Without zeros and well below the cap one product is enough.
     if zeros == 0 {
         if value < 10000000000000000 {
             let next = value * 10 + digit_of(b);
@@ -79,9 +83,9 @@ pub fn pushed(m: Mantissa, b: u8) -> Mantissa
 // The n digits from `from` on.
 pub fn pushed_all(text: &[u8], from: usize, n: usize, m: Mantissa) -> Mantissa
     requires { ⌜ from + n ≤ length (now text) ⌝ }
-    requires { ⌜ n ≤ 64 ⌝ }
+    requires { ⌜ n ≤ maxNumber ⌝ }
     requires { ⌜ m .value ≤ mantissaEnd ⌝ }
-    requires { ⌜ m .zeros ≤ 64 ⌝ }
+    requires { ⌜ m .zeros ≤ maxNumber ⌝ }
     ensures { λ r. ⌜ r ≡ pushAll m (take n (drop from (now (text .entry)))) ⌝ }
 {
     let mut a = m;
@@ -94,10 +98,10 @@ pub fn pushed_all(text: &[u8], from: usize, n: usize, m: Mantissa) -> Mantissa
     a
 }
 
-// The number that n digits spell, at most 10000.
+// The number that n digits spell, kept below a cap.
 pub fn capped_value(text: &[u8], from: usize, n: usize) -> u32
     requires { ⌜ from + n ≤ length (now text) ⌝ }
-    ensures { λ r. ⌜ r ≡ min (valueFrom 0 (take n (drop from (now (text .entry))))) 10000 ⌝ }
+    ensures { λ r. ⌜ r ≡ min (valueFrom 0 (take n (drop from (now (text .entry))))) writtenEnd ⌝ }
 {
     let mut v = 0;
     let mut j = 0;
@@ -109,24 +113,26 @@ pub fn capped_value(text: &[u8], from: usize, n: usize) -> u32
     v
 }
 
+// One digit more, below the cap.
 fn next_value(v: u32, b: u8) -> u32
-    requires { ⌜ v ≤ 10000 ⌝ }
-    ensures { λ r. ⌜ r ≡ min (v * 10 + (b - 48)) 10000 ⌝ }
+    requires { ⌜ v ≤ writtenEnd ⌝ }
+    ensures { λ r. ⌜ r ≡ min (v * 10 + (b - byte "0")) writtenEnd ⌝ }
 {
     let d = small_digit(b);
     let x = v * 10 + d;
-    if x < 10000 {
+    if x < Limits::WRITTEN_END {
         return x;
     }
-    10000
+    Limits::WRITTEN_END
 }
 
+// The number of a digit, as a u32.
 fn small_digit(b: u8) -> u32
-    ensures { λ r. ⌜ r ≡ b - 48 ⌝ }
+    ensures { λ r. ⌜ r ≡ b - byte "0" ⌝ }
 {
-    if b < 48 {
+    if b < b'0' {
         return 0;
     }
-    let d = b - 48;
+    let d = b - b'0';
     d as u32
 }

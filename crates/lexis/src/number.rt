@@ -1,7 +1,10 @@
 // The shape of a number, and its reduced value.
+use crate::class::Class;
 use crate::class::class_of;
+use crate::code::Code;
 use crate::exponent::exponent;
 use crate::exponent::is_near;
+use crate::kind::Kind;
 use crate::limits::Limits;
 use crate::mantissa::Mantissa;
 use crate::mantissa::capped_value;
@@ -13,11 +16,12 @@ use crate::token::byte_at;
 ghost use mathlib.Core.Path.{_≡_};
 ghost use Prim.Native.Nat.{_+_, _<_, _≤_, min, pred};
 ghost use lib.ListN.{length, drop, getD};
+ghost use Rattle.lexis.specs.Sizes.{maxNumber, writtenEnd};
 ghost use Rattle.lexis.specs.Bytes.{classTable};
 ghost use Rattle.lexis.specs.Shapes.{shapeOf};
-ghost use Rattle.lexis.specs.Number.{fracLen, signLen, isE, expLen, partsOf, digitsOf, writtenOf, minusOf};
-ghost use Rattle.lexis.specs.Push.{noDigits, pushAll, reductionOf};
-ghost use Rattle.lexis.specs.Lexeme.{sticks, inRange, numberLexeme};
+ghost use Rattle.lexis.specs.Number.{fracLen, signLen, isE, expLen, partsOf, digitsOf, sticks, writtenOf, minusOf, inRange, reductionOf, reduction};
+ghost use Rattle.lexis.specs.Push.{noDigits, pushAll};
+ghost use Rattle.lexis.specs.Lexeme.{numberLexeme};
 
 // The three parts of a number: whole digits, point and fraction, exponent; each a count of bytes.
 pub struct Parts {
@@ -32,7 +36,7 @@ fn frac_len(classes: &[u8; 256], text: &[u8], at: usize) -> usize
     requires { ⌜ at ≤ length (now text) ⌝ }
     ensures { λ r. ⌜ r ≡ fracLen (drop at (now (text .entry))) ⌝ }
 {
-    if byte_at(text, at) != 46 {
+    if byte_at(text, at) != b'.' {
         return 0;
     }
     let from = at + 1;
@@ -48,22 +52,23 @@ fn sign_len(text: &[u8], at: usize) -> usize
     ensures { λ r. ⌜ r ≡ signLen (drop at (now (text .entry))) ⌝ }
 {
     let b = byte_at(text, at);
-    if b == 43 {
+    if b == b'+' {
         return 1;
     }
-    if b == 45 {
+    if b == b'-' {
         return 1;
     }
     0
 }
 
+// The letter of an exponent.
 fn is_e(b: u8) -> bool
     ensures { λ r. ⌜ r ≡ isE b ⌝ }
 {
-    if b == 101 {
+    if b == b'e' {
         return true;
     }
-    b == 69
+    b == b'E'
 }
 
 // How many bytes at `at` are e or E, a sign or none, and digits.
@@ -90,10 +95,10 @@ fn sticks_to(classes: &[u8; 256], b: u8) -> bool
     requires { ⌜ now classes ≡ classTable ⌝ }
     ensures { λ r. ⌜ r ≡ sticks b ⌝ }
 {
-    if class_of(classes, b) == 3 {
+    if class_of(classes, b) == Class::LETTER {
         return true;
     }
-    b == 46
+    b == b'.'
 }
 
 // What a number reduces to.
@@ -105,7 +110,7 @@ pub enum Reduction {
 // The digits of the whole part and of the fraction, side by side.
 fn mantissa_at(text: &[u8], at: usize, p: Parts) -> Mantissa
     requires { ⌜ at + (p .whole + p .frac + p .exp) ≤ length (now text) ⌝ }
-    requires { ⌜ p .whole + p .frac + p .exp ≤ 64 ⌝ }
+    requires { ⌜ p .whole + p .frac + p .exp ≤ maxNumber ⌝ }
     ensures { λ r. ⌜ r ≡ pushAll noDigits (digitsOf (drop at (now (text .entry))) p) ⌝ }
 {
     let whole = p.whole;
@@ -117,11 +122,11 @@ fn mantissa_at(text: &[u8], at: usize, p: Parts) -> Mantissa
     pushed_all(text, at + (whole + 1), frac - 1, a)
 }
 
-// The exponent as written, without its sign, at most 10000.
+// The exponent as written, without its sign, kept below a cap.
 fn written_at(classes: &[u8; 256], text: &[u8], at: usize, p: Parts) -> u32
     requires { ⌜ now classes ≡ classTable ⌝ }
     requires { ⌜ at + (p .whole + p .frac + p .exp) ≤ length (now text) ⌝ }
-    ensures { λ r. ⌜ r ≡ min (writtenOf (drop at (now (text .entry))) p) 10000 ⌝ }
+    ensures { λ r. ⌜ r ≡ min (writtenOf (drop at (now (text .entry))) p) writtenEnd ⌝ }
 {
     let exp = p.exp;
     if exp == 0 {
@@ -144,12 +149,12 @@ fn minus_at(text: &[u8], at: usize, p: Parts) -> bool
         return false;
     }
     let b = byte_at(text, at + (p.whole + p.frac + 1));
-    b == 45
+    b == b'-'
 }
 
 // How many digits the fraction has.
 fn points_of(p: Parts) -> u32
-    requires { ⌜ p .frac ≤ 64 ⌝ }
+    requires { ⌜ p .frac ≤ maxNumber ⌝ }
     ensures { λ r. ⌜ r ≡ pred (p .frac) ⌝ }
 {
     let frac = p.frac;
@@ -160,10 +165,10 @@ fn points_of(p: Parts) -> u32
 }
 
 // The number of parts p at `at`, reduced.
-pub fn reduce_at(classes: &[u8; 256], text: &[u8], at: usize, p: Parts) -> Reduction
+fn reduce_at(classes: &[u8; 256], text: &[u8], at: usize, p: Parts) -> Reduction
     requires { ⌜ now classes ≡ classTable ⌝ }
     requires { ⌜ at + (p .whole + p .frac + p .exp) ≤ length (now text) ⌝ }
-    requires { ⌜ p .whole + p .frac + p .exp ≤ 64 ⌝ }
+    requires { ⌜ p .whole + p .frac + p .exp ≤ maxNumber ⌝ }
     requires { ⌜ p ≡ partsOf (drop at (now text)) ⌝ }
     ensures { λ r. ⌜ r ≡ reductionOf (drop at (now (text .entry))) p ⌝ }
 {
@@ -193,6 +198,31 @@ pub fn reduce_at(classes: &[u8; 256], text: &[u8], at: usize, p: Parts) -> Reduc
         mantissa: value,
         exponent: e,
     }
+}
+
+// The parts of the longest number at the front of w.
+fn parts_of(classes: &[u8; 256], w: &[u8]) -> Parts
+    requires { ⌜ now classes ≡ classTable ⌝ }
+    ensures { λ r. ⌜ r ≡ partsOf (now (w .entry)) ⌝ }
+{
+    let whole = run_end(classes, w, 0, Run::Digits);
+    let frac = frac_len(classes, w, whole);
+    let exp = exp_len(classes, w, whole + frac);
+    Parts {
+        whole: whole,
+        frac: frac,
+        exp: exp,
+    }
+}
+
+// What the number at the front of w reduces to.
+pub fn reduce(classes: &[u8; 256], w: &[u8]) -> Reduction
+    requires { ⌜ now classes ≡ classTable ⌝ }
+    requires { ⌜ length (now w) ≤ maxNumber ⌝ }
+    ensures { λ r. ⌜ r ≡ reduction (now (w .entry)) ⌝ }
+{
+    let p = parts_of(classes, w);
+    reduce_at(classes, w, 0, p)
 }
 
 // The shape of a number: its parts, or that a letter or a point sticks to it.
@@ -250,13 +280,13 @@ fn shape_at(classes: &[u8; 256], text: &[u8], at: usize) -> Shape
 // Whether the bytes w of a number, of parts p, are in range. Without an exponent, 18 bytes or fewer always are.
 fn in_range(classes: &[u8; 256], w: &[u8], p: Parts) -> bool
     requires { ⌜ now classes ≡ classTable ⌝ }
-    requires { ⌜ length (now w) ≤ 64 ⌝ }
+    requires { ⌜ length (now w) ≤ maxNumber ⌝ }
     requires { ⌜ p ≡ partsOf (now w) ⌝ }
     ensures { λ r. ⌜ r ≡ inRange (now (w .entry)) p ⌝ }
 {
     let exp = p.exp;
     if exp == 0 {
-        if w.len() <= 18 {
+        if w.len() <= Limits::MANTISSA_DIGITS {
             return true;
         }
     }
@@ -276,20 +306,26 @@ pub fn number_at(classes: &[u8; 256], text: &[u8], at: usize) -> Lexeme
     ensures { λ r. ⌜ r ≡ numberLexeme (drop at (now (text .entry))) ⌝ }
 {
     match shape_at(classes, text, at) {
-        Shape::Stuck => Lexeme::Fault(4),
+        Shape::Stuck => Lexeme::Fault(Code::MISSPELT),
         Shape::Good(p) => {
             let n = p.whole + p.frac + p.exp;
             let end = at + n;
             if !Limits::number_fits(n) {
-                return Lexeme::Fault(6);
+                return Lexeme::Fault(Code::TOO_LONG);
             }
             if !in_range(classes, &text[at..end], p) {
-                return Lexeme::Fault(7);
+                return Lexeme::Fault(Code::OUT_OF_RANGE);
             }
             if n == p.whole {
-                return Lexeme::Token { kind: 2, len: n };
+                return Lexeme::Token {
+                    kind: Kind::WHOLE,
+                    len: n,
+                };
             }
-            Lexeme::Token { kind: 3, len: n }
+            Lexeme::Token {
+                kind: Kind::REAL,
+                len: n,
+            }
         }
     }
 }

@@ -1,4 +1,5 @@
 // Runs of bytes in a text. Each gives the position after the run that starts at `from`.
+use crate::class::Class;
 use crate::class::class_of;
 ghost use mathlib.Core.Path.{_≡_};
 ghost use Prim.Native.Nat.{_+_, _≤_};
@@ -24,14 +25,14 @@ pub fn belongs(classes: &[u8; 256], run: Run, b: u8) -> bool
     match run {
         Run::Digits => {
             let k = class_of(classes, b);
-            k == 2
+            k == Class::DIGIT
         }
         Run::NameParts => {
             let k = class_of(classes, b);
-            if k == 3 {
+            if k == Class::LETTER {
                 return true;
             }
-            k == 2
+            k == Class::DIGIT
         }
         Run::Content(q) => {
             if b < 32 {
@@ -44,12 +45,13 @@ pub fn belongs(classes: &[u8; 256], run: Run, b: u8) -> bool
         }
         Run::Spaces => {
             let k = class_of(classes, b);
-            k == 1
+            k == Class::SPACE
         }
-        Run::Comment => b != 10,
+        Run::Comment => b != b'\n',
     }
 }
 
+// The end of a run.
 pub fn run_end(classes: &[u8; 256], text: &[u8], from: usize, run: Run) -> usize
     requires { ⌜ now classes ≡ classTable ⌝ }
     ensures { λ r. ⌜ r ≡ from + spanLen (passes run) (drop from (now (text .entry))) ⌝ }

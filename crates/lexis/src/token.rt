@@ -1,4 +1,7 @@
 // The token at a position of a text.
+use crate::class::Class;
+use crate::code::Code;
+use crate::kind::Kind;
 use crate::limits::Limits;
 use crate::number::number_at;
 use crate::span::Run;
@@ -36,7 +39,7 @@ pub fn word_at(classes: &[u8; 256], text: &[u8], at: usize) -> Lexeme
     let end = name_end(classes, text, at);
     let n = end - at;
     if !Limits::name_fits(n) {
-        return Lexeme::Fault(6);
+        return Lexeme::Fault(Code::TOO_LONG);
     }
     let k = kind_of_word(&text[at..end]);
     Lexeme::Token { kind: k, len: n }
@@ -52,14 +55,14 @@ pub fn string_at(classes: &[u8; 256], text: &[u8], at: usize) -> Lexeme
     let from = at + 1;
     let end = run_end(classes, text, from, Run::Content(q));
     if byte_at(text, end) != q {
-        return Lexeme::Fault(5);
+        return Lexeme::Fault(Code::BAD_STRING);
     }
     let n = end - from;
     if !Limits::string_fits(n) {
-        return Lexeme::Fault(6);
+        return Lexeme::Fault(Code::TOO_LONG);
     }
     Lexeme::Token {
-        kind: 4,
+        kind: Kind::STRING,
         len: n + 2,
     }
 }
@@ -68,16 +71,16 @@ pub fn string_at(classes: &[u8; 256], text: &[u8], at: usize) -> Lexeme
 fn takes_equal(a: u8) -> bool
     ensures { λ r. ⌜ r ≡ takesEqual a ⌝ }
 {
-    if a == 60 {
+    if a == b'<' {
         return true;
     }
-    if a == 62 {
+    if a == b'>' {
         return true;
     }
-    if a == 61 {
+    if a == b'=' {
         return true;
     }
-    a == 33
+    a == b'!'
 }
 
 // An operator or a syntactic character: a is its first byte, of class k, b the next, 0 where there is none.
@@ -85,33 +88,51 @@ pub fn mark_of(k: u8, a: u8, b: u8) -> Lexeme
     requires { ⌜ k ≡ classOf a ⌝ }
     ensures { λ r. ⌜ r ≡ markLexeme a b ⌝ }
 {
-    if k == 7 {
-        if a == 61 {
-            if b == 61 {
-                return Lexeme::Token { kind: 7, len: 2 };
+    if k == Class::SYNTACTIC {
+        if a == b'=' {
+            if b == b'=' {
+                return Lexeme::Token {
+                    kind: Kind::OPERATOR,
+                    len: 2,
+                };
             }
         }
-        return Lexeme::Token { kind: 8, len: 1 };
+        return Lexeme::Token {
+            kind: Kind::SYNTACTIC,
+            len: 1,
+        };
     }
-    if k == 6 {
-        if b == 61 {
+    if k == Class::OPERATOR {
+        if b == b'=' {
             if takes_equal(a) {
-                return Lexeme::Token { kind: 7, len: 2 };
+                return Lexeme::Token {
+                    kind: Kind::OPERATOR,
+                    len: 2,
+                };
             }
         }
-        if b == 62 {
-            if a == 45 {
-                return Lexeme::Token { kind: 8, len: 2 };
+        if b == b'>' {
+            if a == b'-' {
+                return Lexeme::Token {
+                    kind: Kind::SYNTACTIC,
+                    len: 2,
+                };
             }
         }
-        return Lexeme::Token { kind: 7, len: 1 };
+        return Lexeme::Token {
+            kind: Kind::OPERATOR,
+            len: 1,
+        };
     }
-    if k == 8 {
+    if k == Class::TWICE {
         if b == a {
-            return Lexeme::Token { kind: 7, len: 2 };
+            return Lexeme::Token {
+                kind: Kind::OPERATOR,
+                len: 2,
+            };
         }
     }
-    Lexeme::Fault(3)
+    Lexeme::Fault(Code::NO_TOKEN)
 }
 
 // What stands at `at`, a byte of class k, where no gap does. The marks of one byte come first: they are the most frequent tokens.
@@ -122,18 +143,21 @@ pub fn token_at(classes: &[u8; 256], text: &[u8], at: usize, k: u8) -> Lexeme
     ensures { λ r. ⌜ r ≡ lexeme (drop at (now (text .entry))) ⌝ }
 {
     let b = text[at];
-    if k == 7 {
-        if b != 61 {
-            return Lexeme::Token { kind: 8, len: 1 };
+    if k == Class::SYNTACTIC {
+        if b != b'=' {
+            return Lexeme::Token {
+                kind: Kind::SYNTACTIC,
+                len: 1,
+            };
         }
     }
-    if k == 3 {
+    if k == Class::LETTER {
         return word_at(classes, text, at);
     }
-    if k == 2 {
+    if k == Class::DIGIT {
         return number_at(classes, text, at);
     }
-    if k == 4 {
+    if k == Class::QUOTE {
         return string_at(classes, text, at);
     }
     let next = byte_at(text, at + 1);

@@ -1,6 +1,8 @@
 // The words with a meaning of their own.
+use crate::kind::Kind;
 ghost use mathlib.Core.Path.{_≡_};
 ghost use mathlib.Core.Bool.{cond};
+ghost use Rattle.lexis.specs.Kind.{name};
 ghost use Rattle.lexis.specs.Words.{sameBytes, kindOfWord};
 
 // Whether two texts are the same, byte by byte.
@@ -20,104 +22,104 @@ pub fn same(a: &[u8], b: &[u8]) -> bool
     true
 }
 
-// `kind` where w is spelt so, and 1, a name, where not.
+// `kind` where w is spelt so; a name where not.
 fn kind_if(w: &[u8], spelling: &[u8], kind: u8) -> u8
-    ensures { λ r. ⌜ r ≡ cond (sameBytes (now (w .entry)) (now (spelling .entry))) kind 1 ⌝ }
+    ensures { λ r. ⌜ r ≡ cond (sameBytes (now (w .entry)) (now (spelling .entry))) kind name ⌝ }
 {
     if same(w, spelling) {
         return kind;
     }
-    1
+    Kind::NAME
 }
 
-// The kind of a word: 5 true and false, 6 a keyword, 1 a name. Its first byte and its length leave one or two words to compare it with.
+// The kind of a word. Its first byte and its length leave one or two words to compare it with.
 pub fn kind_of_word(w: &[u8]) -> u8
     ensures { λ r. ⌜ r ≡ kindOfWord (now (w .entry)) ⌝ }
 {
     let n = w.len();
     if n == 0 {
-        return 1;
+        return Kind::NAME;
     }
     let first = w[0];
     match first {
-        116 => {
+        b't' => {
             if n == 4 {
-                return kind_if(w, b"true", 5);
+                return kind_if(w, b"true", Kind::TRUTH);
             }
             if n == 6 {
-                return kind_if(w, b"tensor", 6);
+                return kind_if(w, b"tensor", Kind::KEYWORD);
             }
-            1
+            Kind::NAME
         }
-        102 => {
+        b'f' => {
             if n == 5 {
-                return kind_if(w, b"false", 5);
+                return kind_if(w, b"false", Kind::TRUTH);
             }
             if n == 8 {
-                return kind_if(w, b"fragment", 6);
+                return kind_if(w, b"fragment", Kind::KEYWORD);
             }
             if n == 3 {
-                return kind_if(w, b"for", 6);
+                return kind_if(w, b"for", Kind::KEYWORD);
             }
-            1
+            Kind::NAME
         }
-        103 => {
+        b'g' => {
             if n == 5 {
-                return kind_if(w, b"graph", 6);
+                return kind_if(w, b"graph", Kind::KEYWORD);
             }
-            1
+            Kind::NAME
         }
-        101 => {
+        b'e' => {
             if n == 6 {
-                return kind_if(w, b"extent", 6);
+                return kind_if(w, b"extent", Kind::KEYWORD);
             }
             if n == 4 {
-                return kind_if(w, b"else", 6);
+                return kind_if(w, b"else", Kind::KEYWORD);
             }
-            1
+            Kind::NAME
         }
-        115 => {
+        b's' => {
             if n == 6 {
                 if same(w, b"scalar") {
-                    return 6;
+                    return Kind::KEYWORD;
                 }
-                return kind_if(w, b"string", 6);
+                return kind_if(w, b"string", Kind::KEYWORD);
             }
             if n == 8 {
-                return kind_if(w, b"shape_of", 6);
+                return kind_if(w, b"shape_of", Kind::KEYWORD);
             }
-            1
+            Kind::NAME
         }
-        108 => {
+        b'l' => {
             if n == 7 {
-                return kind_if(w, b"logical", 6);
+                return kind_if(w, b"logical", Kind::KEYWORD);
             }
             if n == 9 {
-                return kind_if(w, b"length_of", 6);
+                return kind_if(w, b"length_of", Kind::KEYWORD);
             }
-            1
+            Kind::NAME
         }
-        114 => {
+        b'r' => {
             if n == 8 {
-                return kind_if(w, b"range_of", 6);
+                return kind_if(w, b"range_of", Kind::KEYWORD);
             }
-            1
+            Kind::NAME
         }
-        105 => {
+        b'i' => {
             if n == 2 {
                 if same(w, b"in") {
-                    return 6;
+                    return Kind::KEYWORD;
                 }
-                return kind_if(w, b"if", 6);
+                return kind_if(w, b"if", Kind::KEYWORD);
             }
-            1
+            Kind::NAME
         }
-        118 => {
+        b'v' => {
             if n == 7 {
-                return kind_if(w, b"version", 6);
+                return kind_if(w, b"version", Kind::KEYWORD);
             }
-            1
+            Kind::NAME
         }
-        _ => 1,
+        _ => Kind::NAME,
     }
 }

@@ -1,21 +1,15 @@
-use mathlib.Core.Path.{_≡_, refl, sym, ap, _∙_, subst}
-use mathlib.Core.Bool.{Bool, true, false, not, cond, _&&_, _||_}
-use mathlib.Core.Logic.{⊎-elim}
-use mathlib.Core.List.{List, [], _∷_, _++_}
-use Prim.Native.Nat.{ℕ, suc, pred, _+_, _-_, _*_, _≤_, _<_}
+-- After i turns the first i words are copied, and the rest is as it was.
+use mathlib.Core.Path.{_≡_, sym, ap, _∙_}
+use mathlib.Core.List.{List}
+use Prim.Native.Nat.{ℕ, _-_, _≤_}
 use native.Mathlib.Omega.{arith}
-use lib.Dec.{eqb, leb, ltb}
-use lib.ListN.{length, drop, take, getD}
+use lib.ListN.{length, getD, set}
 use borrow.Author.Needs.{needs}
-use borrow.Author.Tests.{lt-ltb, le-ltb, le-leb, lt-leb, eq-eqb, ne-eqb, not-true, not-false, leb-true, leb-false, ltb-true, ltb-false, eqb-true, eqb-false}
 use lib.Seq.{paste, paste-zero, paste-suc, length-paste}
 use native.Mathlib.Numerals.{add-one}
-use lib.ListN.{set}
 use native.Mathlib.Nat.{zero-add}
 use Rattle.lexis.proofs.copy.Statement.{statement}
 use Rattle.lexis.proofs.copy.Tie as tie
-use Rattle.lexis.proofs.copy.Reads as reads
-use Rattle.lexis.proofs.copy.Lts as lts
 
 abbrev Inv-loop : tie.InvT-loop
 Inv-loop from to₀ n i₀ to i = (i ≤ n) × (to ≡ paste to₀ 0 from i)

@@ -1,72 +1,105 @@
-use mathlib.Core.Path.{_≡_, refl, sym, ap, _∙_, subst}
-use mathlib.Core.Bool.{Bool, true, false, not, cond, _&&_, _||_}
-use mathlib.Core.Logic.{⊎-elim}
-use mathlib.Core.List.{List, [], _∷_, _++_}
-use Prim.Native.Nat.{ℕ, suc, pred, _+_, _-_, _*_, _≤_, _<_}
-use native.Mathlib.Omega.{arith}
-use lib.Dec.{eqb, leb, ltb}
-use lib.ListN.{length, drop, take, getD}
+-- A short table, a long text, and four sizes of work area that answer alike.
+use mathlib.Core.Path.{sym, _∙_}
 use borrow.Author.Needs.{needs}
-use borrow.Author.Tests.{lt-ltb, le-ltb, le-leb, lt-leb, eq-eqb, ne-eqb, not-true, not-false, leb-true, leb-false, ltb-true, ltb-false, eqb-true, eqb-false}
-use Rattle.lexis.proofs.Tops.{short-table, long-text, tokens-by}
+use borrow.Author.Tests.{not-true, not-false, leb-true}
+use Rattle.lexis.specs.Sizes.{maxText, tableWords}
+use Rattle.lexis.proofs.Answers.{short-table, long-text, tokens-by}
 use Rattle.lexis.proofs.tokens.Statement.{statement}
 use Rattle.lexis.proofs.tokens.Tie as tie
-use Rattle.lexis.proofs.tokens.Reads as reads
-use Rattle.lexis.proofs.tokens.Lts as lts
-use Rattle.lexis.proofs.limits.Limits.table_serves.Reads as table-serves-reads
-use Rattle.lexis.proofs.limits.Limits.text_fits.Reads as text-fits-reads
-use Rattle.lexis.proofs.tokens_long.Reads as tokens-long-reads
-use Rattle.lexis.proofs.tokens_middle.Reads as tokens-middle-reads
-use Rattle.lexis.proofs.tokens_short.Reads as tokens-short-reads
-use Rattle.lexis.proofs.tokens_tiny.Reads as tokens-tiny-reads
 
 table-serves-requires : tie.Need-table-serves-requires
 table-serves-requires c κs = search needs
 
 returns : tie.Need-returns
-returns c = short-table (c .before .before .before .before .args .text .now) (c .before .before .before .before .args .table .now) (sym (c .before .table-serves .ensures) ∙ not-true _ (c .if1 .taken))
+returns c =
+    let start = c .before .before .before .before in
+    short-table (start .args .text .now) (start .args .table .now) (sym (c .before .table-serves .ensures) ∙ not-true _ (c .if1 .taken))
 
 text-fits-requires : tie.Need-text-fits-requires
 text-fits-requires c κs = search needs
 
+cast-end : tie.Need-cast-end
+cast-end c = search needs
+
 returns-2 : tie.Need-returns-2
-returns-2 c = long-text (c .before .before .before .before .before .before .args .text .now) (c .before .before .before .before .before .before .args .table .now) (sym (c .before .before .before .table-serves .ensures) ∙ not-false _ (c .before .before .if1 .left)) (sym (c .before .text-fits .ensures) ∙ not-true _ (c .if2 .taken))
+returns-2 c =
+    let at-table-serves = c .before .before .before in
+    let start = at-table-serves .before .before .before in
+    long-text (start .args .text .now) (start .args .table .now) (sym (at-table-serves .table-serves .ensures) ∙ not-false _ (c .before .before .if1 .left)) (sym (c .before .text-fits .ensures) ∙ not-true _ (c .if2 .taken))
 
 tokens-tiny-requires : tie.Need-tokens-tiny-requires
-tokens-tiny-requires c κs = (c .before .if3 .taken, leb-true 12288 _ (sym (c .before .before .before .before .before .table-serves .ensures) ∙ not-false _ (c .before .before .before .before .if1 .left)))
+tokens-tiny-requires c κs =
+    let at-if1 = c .before .before .before .before in
+    let at-table-serves = at-if1 .before in
+    (c .before .if3 .taken, leb-true tableWords _ (sym (at-table-serves .table-serves .ensures) ∙ not-false _ (at-if1 .if1 .left)))
 
 same-length : tie.Need-same-length
 same-length c = search needs
 
 returns-3 : tie.Need-returns-3
-returns-3 c = tokens-by (c .before .before .before .before .before .before .before .before .before .before .before .args .text .now) (c .before .before .before .before .before .before .before .before .before .before .before .args .table .now) (sym (c .before .before .before .before .before .before .before .before .table-serves .ensures) ∙ not-false _ (c .before .before .before .before .before .before .before .if1 .left)) (sym (c .before .before .before .before .before .before .text-fits .ensures) ∙ not-false _ (c .before .before .before .before .before .if2 .left)) _ _ (c .before .before .tokens-tiny .ensures .0) (c .before .before .tokens-tiny .ensures .1)
+returns-3 c =
+    let at-if2 = c .before .before .before .before .before in
+    let at-text-fits = at-if2 .before in
+    let at-if1 = at-text-fits .before in
+    let at-table-serves = at-if1 .before in
+    let start = at-table-serves .before .before .before in
+    tokens-by (start .args .text .now) (start .args .table .now) (sym (at-table-serves .table-serves .ensures) ∙ not-false _ (at-if1 .if1 .left)) (sym (at-text-fits .text-fits .ensures) ∙ not-false _ (at-if2 .if2 .left)) _ _ (c .before .before .tokens-tiny .ensures .0) (c .before .before .tokens-tiny .ensures .1)
 
 tokens-short-requires : tie.Need-tokens-short-requires
-tokens-short-requires c κs = (c .before .if4 .taken, leb-true 12288 _ (sym (c .before .before .before .before .before .before .table-serves .ensures) ∙ not-false _ (c .before .before .before .before .before .if1 .left)))
+tokens-short-requires c κs =
+    let at-if1 = c .before .before .before .before .before in
+    let at-table-serves = at-if1 .before in
+    (c .before .if4 .taken, leb-true tableWords _ (sym (at-table-serves .table-serves .ensures) ∙ not-false _ (at-if1 .if1 .left)))
 
 same-length-2 : tie.Need-same-length-2
 same-length-2 c = search needs
 
 returns-4 : tie.Need-returns-4
-returns-4 c = tokens-by (c .before .before .before .before .before .before .before .before .before .before .before .before .args .text .now) (c .before .before .before .before .before .before .before .before .before .before .before .before .args .table .now) (sym (c .before .before .before .before .before .before .before .before .before .table-serves .ensures) ∙ not-false _ (c .before .before .before .before .before .before .before .before .if1 .left)) (sym (c .before .before .before .before .before .before .before .text-fits .ensures) ∙ not-false _ (c .before .before .before .before .before .before .if2 .left)) _ _ (c .before .before .tokens-short .ensures .0) (c .before .before .tokens-short .ensures .1)
+returns-4 c =
+    let at-if2 = c .before .before .before .before .before .before in
+    let at-text-fits = at-if2 .before in
+    let at-if1 = at-text-fits .before in
+    let at-table-serves = at-if1 .before in
+    let start = at-table-serves .before .before .before in
+    tokens-by (start .args .text .now) (start .args .table .now) (sym (at-table-serves .table-serves .ensures) ∙ not-false _ (at-if1 .if1 .left)) (sym (at-text-fits .text-fits .ensures) ∙ not-false _ (at-if2 .if2 .left)) _ _ (c .before .before .tokens-short .ensures .0) (c .before .before .tokens-short .ensures .1)
 
 tokens-middle-requires : tie.Need-tokens-middle-requires
-tokens-middle-requires c κs = (c .before .if5 .taken, leb-true 12288 _ (sym (c .before .before .before .before .before .before .before .table-serves .ensures) ∙ not-false _ (c .before .before .before .before .before .before .if1 .left)))
+tokens-middle-requires c κs =
+    let at-if1 = c .before .before .before .before .before .before in
+    let at-table-serves = at-if1 .before in
+    (c .before .if5 .taken, leb-true tableWords _ (sym (at-table-serves .table-serves .ensures) ∙ not-false _ (at-if1 .if1 .left)))
 
 same-length-3 : tie.Need-same-length-3
 same-length-3 c = search needs
 
 returns-5 : tie.Need-returns-5
-returns-5 c = tokens-by (c .before .before .before .before .before .before .before .before .before .before .before .before .before .args .text .now) (c .before .before .before .before .before .before .before .before .before .before .before .before .before .args .table .now) (sym (c .before .before .before .before .before .before .before .before .before .before .table-serves .ensures) ∙ not-false _ (c .before .before .before .before .before .before .before .before .before .if1 .left)) (sym (c .before .before .before .before .before .before .before .before .text-fits .ensures) ∙ not-false _ (c .before .before .before .before .before .before .before .if2 .left)) _ _ (c .before .before .tokens-middle .ensures .0) (c .before .before .tokens-middle .ensures .1)
+returns-5 c =
+    let at-if2 = c .before .before .before .before .before .before .before in
+    let at-text-fits = at-if2 .before in
+    let at-if1 = at-text-fits .before in
+    let at-table-serves = at-if1 .before in
+    let start = at-table-serves .before .before .before in
+    tokens-by (start .args .text .now) (start .args .table .now) (sym (at-table-serves .table-serves .ensures) ∙ not-false _ (at-if1 .if1 .left)) (sym (at-text-fits .text-fits .ensures) ∙ not-false _ (at-if2 .if2 .left)) _ _ (c .before .before .tokens-middle .ensures .0) (c .before .before .tokens-middle .ensures .1)
 
 tokens-long-requires : tie.Need-tokens-long-requires
-tokens-long-requires c κs = (leb-true _ 16384 (sym (c .before .before .before .before .before .text-fits .ensures) ∙ not-false _ (c .before .before .before .before .if2 .left)), leb-true 12288 _ (sym (c .before .before .before .before .before .before .before .table-serves .ensures) ∙ not-false _ (c .before .before .before .before .before .before .if1 .left)))
+tokens-long-requires c κs =
+    let at-if2 = c .before .before .before .before in
+    let at-text-fits = at-if2 .before in
+    let at-if1 = at-text-fits .before in
+    let at-table-serves = at-if1 .before in
+    (leb-true _ maxText (sym (at-text-fits .text-fits .ensures) ∙ not-false _ (at-if2 .if2 .left)), leb-true tableWords _ (sym (at-table-serves .table-serves .ensures) ∙ not-false _ (at-if1 .if1 .left)))
 
 same-length-4 : tie.Need-same-length-4
 same-length-4 c = search needs
 
 returns-6 : tie.Need-returns-6
-returns-6 c = tokens-by (c .before .before .before .before .before .before .before .before .before .before .before .before .before .args .text .now) (c .before .before .before .before .before .before .before .before .before .before .before .before .before .args .table .now) (sym (c .before .before .before .before .before .before .before .before .before .before .table-serves .ensures) ∙ not-false _ (c .before .before .before .before .before .before .before .before .before .if1 .left)) (sym (c .before .before .before .before .before .before .before .before .text-fits .ensures) ∙ not-false _ (c .before .before .before .before .before .before .before .if2 .left)) _ _ (c .before .before .tokens-long .ensures .0) (c .before .before .tokens-long .ensures .1)
+returns-6 c =
+    let at-if2 = c .before .before .before .before .before .before .before in
+    let at-text-fits = at-if2 .before in
+    let at-if1 = at-text-fits .before in
+    let at-table-serves = at-if1 .before in
+    let start = at-table-serves .before .before .before in
+    tokens-by (start .args .text .now) (start .args .table .now) (sym (at-table-serves .table-serves .ensures) ∙ not-false _ (at-if1 .if1 .left)) (sym (at-text-fits .text-fits .ensures) ∙ not-false _ (at-if2 .if2 .left)) _ _ (c .before .before .tokens-long .ensures .0) (c .before .before .tokens-long .ensures .1)
 
 pub tokens-spec : {M : Type 1} → statement M
 tokens-spec =
@@ -75,6 +108,7 @@ tokens-spec =
     table-serves-requires
     returns
     text-fits-requires
+    cast-end
     returns-2
     tokens-tiny-requires
     same-length

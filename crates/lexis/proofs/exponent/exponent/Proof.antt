@@ -1,22 +1,9 @@
-use mathlib.Core.Path.{_≡_, refl, sym, ap, _∙_, subst}
-use mathlib.Core.Bool.{Bool, true, false, not, cond, _&&_, _||_}
-use mathlib.Core.Logic.{⊎-elim}
-use mathlib.Core.List.{List, [], _∷_, _++_}
-use Prim.Native.Nat.{ℕ, suc, pred, _+_, _-_, _*_, _≤_, _<_}
-use native.Mathlib.Omega.{arith}
-use lib.Dec.{eqb, leb, ltb}
-use lib.ListN.{length, drop, take, getD}
+-- The sum and the difference fit an i32, as the written exponent is at most 9999 and the two counts at most 64.
 use borrow.Author.Needs.{needs}
-use borrow.Author.Tests.{lt-ltb, le-ltb, le-leb, lt-leb, eq-eqb, ne-eqb, not-true, not-false, leb-true, leb-false, ltb-true, ltb-false, eqb-true, eqb-false}
-use Rattle.lexis.specs.Exponents.{signedOf, exponentOf, isNear}
-use Rattle.lexis.proofs.Signs.{neg-is, sub-fits, back, small-sub, diff-fits, sum-fits, sum-is, cond-small, not-ltZ}
-use Prim.Native.Nat.{zero-le, _^_}
-use mir.Facts.{toZ-ofZ}
+use Rattle.lexis.proofs.Signs.{diff-fits, sum-fits, sum-is, cond-small}
+use Prim.Native.Nat.{zero-le}
 use Rattle.lexis.proofs.exponent.exponent.Statement.{statement}
 use Rattle.lexis.proofs.exponent.exponent.Tie as tie
-use Rattle.lexis.proofs.exponent.exponent.Reads as reads
-use Rattle.lexis.proofs.exponent.exponent.Lts as lts
-use Rattle.lexis.proofs.exponent.signed.Reads as signed-reads
 
 signed-requires : tie.Need-signed-requires
 signed-requires c κs = search needs

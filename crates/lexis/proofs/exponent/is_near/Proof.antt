@@ -1,16 +1,9 @@
-use mathlib.Core.Path.{_≡_, refl, sym, ap, _∙_, subst}
-use mathlib.Core.Bool.{Bool, true, false, not, cond, _&&_, _||_}
-use mathlib.Core.Logic.{⊎-elim}
-use mathlib.Core.List.{List, [], _∷_, _++_}
-use Prim.Native.Nat.{ℕ, suc, pred, _+_, _-_, _*_, _≤_, _<_}
-use native.Mathlib.Omega.{arith}
-use lib.Dec.{eqb, leb, ltb}
-use lib.ListN.{length, drop, take, getD}
+-- The two comparisons of the code are those of `isNear`.
+use mathlib.Core.Path.{_≡_, sym, ap, _∙_}
+use mathlib.Core.Bool.{true, false}
 use borrow.Author.Needs.{needs}
-use borrow.Author.Tests.{lt-ltb, le-ltb, le-leb, lt-leb, eq-eqb, ne-eqb, not-true, not-false, leb-true, leb-false, ltb-true, ltb-false, eqb-true, eqb-false}
-use Rattle.lexis.specs.Exponents.{signedOf, exponentOf, isNear}
-use Rattle.lexis.proofs.Signs.{neg-is, sub-fits, back, small-sub, diff-fits, sum-fits, sum-is, cond-small, not-ltZ}
-use Prim.Native.Nat.{zero-le, _^_}
+use Rattle.lexis.specs.Number.{isNear}
+use Rattle.lexis.proofs.Signs.{not-ltZ}
 use mir.Facts.{toZ-ofZ}
 use mir.Val.{toZ, ofZ}
 use mir.Syntax.{w32}
@@ -18,8 +11,9 @@ use lib.IntN.{ℤ, negsuc}
 use lib.Signed.{ltZ}
 use Rattle.lexis.proofs.exponent.is_near.Statement.{statement}
 use Rattle.lexis.proofs.exponent.is_near.Tie as tie
-use Rattle.lexis.proofs.exponent.is_near.Reads as reads
-use Rattle.lexis.proofs.exponent.is_near.Lts as lts
+
+sub-if1 : tie.Need-sub-if1
+sub-if1 c = search needs
 
 returns : tie.Need-returns
 unfolding isNear
@@ -38,4 +32,4 @@ returns-2 c =
     rw (not-ltZ e (negsuc 998), t, same)
 
 pub is-near-spec : {M : Type 1} → statement M
-is-near-spec = tie.close (tie.spec returns returns-2)
+is-near-spec = tie.close (tie.spec sub-if1 returns returns-2)

@@ -1,21 +1,9 @@
-use mathlib.Core.Path.{_≡_, refl, sym, ap, _∙_, subst}
-use mathlib.Core.Bool.{Bool, true, false, not, cond, _&&_, _||_}
-use mathlib.Core.Logic.{⊎-elim}
-use mathlib.Core.List.{List, [], _∷_, _++_}
-use Prim.Native.Nat.{ℕ, suc, pred, _+_, _-_, _*_, _≤_, _<_}
+-- The negation of a small number fits an i32.
 use native.Mathlib.Omega.{arith}
-use lib.Dec.{eqb, leb, ltb}
-use lib.ListN.{length, drop, take, getD}
 use borrow.Author.Needs.{needs}
-use borrow.Author.Tests.{lt-ltb, le-ltb, le-leb, lt-leb, eq-eqb, ne-eqb, not-true, not-false, leb-true, leb-false, ltb-true, ltb-false, eqb-true, eqb-false}
-use Rattle.lexis.specs.Exponents.{signedOf, exponentOf, isNear}
-use Rattle.lexis.proofs.Signs.{neg-is, sub-fits, back, small-sub, diff-fits, sum-fits, sum-is, cond-small, not-ltZ}
-use Prim.Native.Nat.{zero-le, _^_}
-use mir.Facts.{toZ-ofZ}
+use Rattle.lexis.proofs.Signs.{neg-is, sub-fits, back, small-sub}
 use Rattle.lexis.proofs.exponent.signed.Statement.{statement}
 use Rattle.lexis.proofs.exponent.signed.Tie as tie
-use Rattle.lexis.proofs.exponent.signed.Reads as reads
-use Rattle.lexis.proofs.exponent.signed.Lts as lts
 
 cast-e : tie.Need-cast-e
 cast-e c = search needs

@@ -1,24 +1,17 @@
-use mathlib.Core.Path.{_≡_, refl, sym, ap, _∙_, subst}
-use mathlib.Core.Bool.{Bool, true, false, not, cond, _&&_, _||_}
-use mathlib.Core.Logic.{⊎-elim}
-use mathlib.Core.List.{List, [], _∷_, _++_}
-use Prim.Native.Nat.{ℕ, suc, pred, _+_, _-_, _*_, _≤_, _<_}
+-- After j turns v is the number that the first j digits spell, capped.
+use mathlib.Core.Path.{_≡_, refl}
+use Prim.Native.Nat.{_-_, _≤_, min}
 use native.Mathlib.Omega.{arith}
-use lib.Dec.{eqb, leb, ltb}
-use lib.ListN.{length, drop, take, getD}
+use lib.ListN.{drop, take}
 use borrow.Author.Needs.{needs}
-use borrow.Author.Tests.{lt-ltb, le-ltb, le-leb, lt-leb, eq-eqb, ne-eqb, not-true, not-false, leb-true, leb-false, ltb-true, ltb-false, eqb-true, eqb-false}
-use Prim.Native.Nat.{min}
+use Rattle.lexis.specs.Sizes.{writtenEnd}
 use Rattle.lexis.specs.Number.{valueFrom}
-use Rattle.lexis.proofs.Scales.{value-more}
+use Rattle.lexis.proofs.Caps.{value-more}
 use Rattle.lexis.proofs.mantissa.capped_value.Statement.{statement}
 use Rattle.lexis.proofs.mantissa.capped_value.Tie as tie
-use Rattle.lexis.proofs.mantissa.capped_value.Reads as reads
-use Rattle.lexis.proofs.mantissa.capped_value.Lts as lts
-use Rattle.lexis.proofs.mantissa.next_value.Reads as next-value-reads
 
 abbrev Inv-loop : tie.InvT-loop
-Inv-loop text from n v₀ j₀ v j = (j ≤ n) × (v ≡ min (valueFrom 0 (take j (drop from text))) 10000)
+Inv-loop text from n v₀ j₀ v j = (j ≤ n) × (v ≡ min (valueFrom 0 (take j (drop from text))) writtenEnd)
 
 abbrev μ-loop : tie.MeasureT-loop
 μ-loop text from n v₀ j₀ v j = n - j
@@ -43,7 +36,10 @@ loop-less : tie.Need-loop-less Inv-loop μ-loop
 loop-less c = search needs
 
 loop-again : tie.Need-loop-again Inv-loop μ-loop
-loop-again c = (omega arith, value-more (c .before .before .before .before .before .args .text .now) (c .before .before .before .before .before .args .from) (c .before .before .before .loop .j) _ _ (omega arith) (c .before .before .before .loop .inv .1) (c .next-value .ensures))
+loop-again c =
+    let at-loop = c .before .before .before in
+    let start = at-loop .before .before in
+    (omega arith, value-more (start .args .text .now) (start .args .from) (at-loop .loop .j) _ _ (omega arith) (at-loop .loop .inv .1) (c .next-value .ensures))
 
 returns : tie.Need-returns Inv-loop μ-loop
 returns c =

@@ -1,22 +1,10 @@
-use mathlib.Core.Path.{_≡_, refl, sym, ap, _∙_, subst}
-use mathlib.Core.Bool.{Bool, true, false, not, cond, _&&_, _||_}
-use mathlib.Core.Logic.{⊎-elim}
-use mathlib.Core.List.{List, [], _∷_, _++_}
-use Prim.Native.Nat.{ℕ, suc, pred, _+_, _-_, _*_, _≤_, _<_}
-use native.Mathlib.Omega.{arith}
-use lib.Dec.{eqb, leb, ltb}
-use lib.ListN.{length, drop, take, getD}
+-- The cases of `push`; without zeros and well below the cap one product is enough.
 use borrow.Author.Needs.{needs}
-use borrow.Author.Tests.{lt-ltb, le-ltb, le-leb, lt-leb, eq-eqb, ne-eqb, not-true, not-false, leb-true, leb-false, ltb-true, ltb-false, eqb-true, eqb-false}
+use borrow.Author.Tests.{eq-eqb, ne-eqb}
 use Rattle.lexis.specs.Push.{push}
-use Rattle.lexis.proofs.Scales.{push-fast}
+use Rattle.lexis.proofs.Caps.{push-fast}
 use Rattle.lexis.proofs.mantissa.pushed.Statement.{statement}
 use Rattle.lexis.proofs.mantissa.pushed.Tie as tie
-use Rattle.lexis.proofs.mantissa.pushed.Reads as reads
-use Rattle.lexis.proofs.mantissa.pushed.Lts as lts
-use Rattle.lexis.proofs.mantissa.capped.Reads as capped-reads
-use Rattle.lexis.proofs.mantissa.digit_of.Reads as digit-of-reads
-use Rattle.lexis.proofs.mantissa.scaled.Reads as scaled-reads
 
 returns : tie.Need-returns
 unfolding push

@@ -1,21 +1,13 @@
-use mathlib.Core.Path.{_≡_, refl, sym, ap, _∙_, subst}
-use mathlib.Core.Bool.{Bool, true, false, not, cond, _&&_, _||_}
-use mathlib.Core.Logic.{⊎-elim}
-use mathlib.Core.List.{List, [], _∷_, _++_}
-use Prim.Native.Nat.{ℕ, suc, pred, _+_, _-_, _*_, _≤_, _<_}
+-- After j turns the first j digits are read, and there are at most j zeros more than at the start.
+use mathlib.Core.Path.{_≡_, refl}
+use Prim.Native.Nat.{_+_, _-_, _≤_}
 use native.Mathlib.Omega.{arith}
-use lib.Dec.{eqb, leb, ltb}
-use lib.ListN.{length, drop, take, getD}
+use lib.ListN.{drop, take}
 use borrow.Author.Needs.{needs}
-use borrow.Author.Tests.{lt-ltb, le-ltb, le-leb, lt-leb, eq-eqb, ne-eqb, not-true, not-false, leb-true, leb-false, ltb-true, ltb-false, eqb-true, eqb-false}
-use Rattle.lexis.specs.Sizes.{mantissaEnd}
-use Rattle.lexis.specs.Push.{push, pushAll}
-use Rattle.lexis.proofs.Scales.{Bounded, push-bounded, push-more}
+use Rattle.lexis.specs.Push.{pushAll}
+use Rattle.lexis.proofs.Caps.{Bounded, push-bounded, push-more}
 use Rattle.lexis.proofs.mantissa.pushed_all.Statement.{statement}
 use Rattle.lexis.proofs.mantissa.pushed_all.Tie as tie
-use Rattle.lexis.proofs.mantissa.pushed_all.Reads as reads
-use Rattle.lexis.proofs.mantissa.pushed_all.Lts as lts
-use Rattle.lexis.proofs.mantissa.pushed.Reads as pushed-reads
 
 abbrev Inv-loop : tie.InvT-loop
 Inv-loop text from n a₀ j₀ a j = (j ≤ n) × (a ≡ pushAll a₀ (take j (drop from text))) × Bounded (a₀ .zeros + j) a
@@ -44,8 +36,10 @@ loop-less c = search needs
 
 loop-again : tie.Need-loop-again Inv-loop μ-loop
 loop-again c =
-    let start = c .before .before .before .before .before in
-    let at = c .before .before .before .loop in
+    let at-loop = c .before .before .before in
+    let c5 = at-loop .before .before in
+    let start = c5 in
+    let at = at-loop .loop in
     let regroup : start .args .m .zeros + (at .j + 1) ≡ start .args .m .zeros + at .j + 1 = omega arith in (
       omega arith,
       push-more (start .args .text .now) (start .args .from) (at .j) _ _ _ (omega arith) (at .inv .1) (c .pushed .ensures),

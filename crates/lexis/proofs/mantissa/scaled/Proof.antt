@@ -1,21 +1,12 @@
-use mathlib.Core.Path.{_≡_, refl, sym, ap, _∙_, subst}
-use mathlib.Core.Bool.{Bool, true, false, not, cond, _&&_, _||_}
-use mathlib.Core.Logic.{⊎-elim}
-use mathlib.Core.List.{List, [], _∷_, _++_}
-use Prim.Native.Nat.{ℕ, suc, pred, _+_, _-_, _*_, _≤_, _<_}
+-- After i turns v is x times ten to the i, capped.
+use mathlib.Core.Path.{_≡_}
+use Prim.Native.Nat.{_-_, _*_, _≤_, _^_, min}
 use native.Mathlib.Omega.{arith}
-use lib.Dec.{eqb, leb, ltb}
-use lib.ListN.{length, drop, take, getD}
 use borrow.Author.Needs.{needs}
-use borrow.Author.Tests.{lt-ltb, le-ltb, le-leb, lt-leb, eq-eqb, ne-eqb, not-true, not-false, leb-true, leb-false, ltb-true, ltb-false, eqb-true, eqb-false}
-use Prim.Native.Nat.{_^_, min}
 use Rattle.lexis.specs.Sizes.{mantissaEnd}
-use Rattle.lexis.proofs.Scales.{scale-none, scale-more}
+use Rattle.lexis.proofs.Caps.{scale-none, scale-more}
 use Rattle.lexis.proofs.mantissa.scaled.Statement.{statement}
 use Rattle.lexis.proofs.mantissa.scaled.Tie as tie
-use Rattle.lexis.proofs.mantissa.scaled.Reads as reads
-use Rattle.lexis.proofs.mantissa.scaled.Lts as lts
-use Rattle.lexis.proofs.mantissa.capped.Reads as capped-reads
 
 abbrev Inv-loop : tie.InvT-loop
 Inv-loop x n v₀ i₀ v i = (i ≤ n) × (v ≡ min (x * 10 ^ i) mantissaEnd)

@@ -1,24 +1,16 @@
-use mathlib.Core.Path.{_≡_, refl, sym, ap, _∙_, subst}
-use mathlib.Core.Bool.{Bool, true, false, not, cond, _&&_, _||_}
-use mathlib.Core.Logic.{⊎-elim}
-use mathlib.Core.List.{List, [], _∷_, _++_}
-use Prim.Native.Nat.{ℕ, suc, pred, _+_, _-_, _*_, _≤_, _<_}
+-- A short number without an exponent is in range; any other is where its reduction is a number.
 use native.Mathlib.Omega.{arith}
-use lib.Dec.{eqb, leb, ltb}
-use lib.ListN.{length, drop, take, getD}
 use borrow.Author.Needs.{needs}
-use borrow.Author.Tests.{lt-ltb, le-ltb, le-leb, lt-leb, eq-eqb, ne-eqb, not-true, not-false, leb-true, leb-false, ltb-true, ltb-false, eqb-true, eqb-false}
 use Prim.Native.Nat.{zero-le}
 use Rattle.lexis.proofs.Shapes.{parts-in}
 use Rattle.lexis.proofs.Ranges.{in-range-yes, in-range-no, range-short}
 use Rattle.lexis.proofs.number.in_range.Statement.{statement}
 use Rattle.lexis.proofs.number.in_range.Tie as tie
-use Rattle.lexis.proofs.number.in_range.Reads as reads
-use Rattle.lexis.proofs.number.in_range.Lts as lts
-use Rattle.lexis.proofs.number.reduce_at.Reads as reduce-at-reads
 
 returns : tie.Need-returns
-returns c = range-short (c .before .before .before .args .w .now) (c .before .before .before .args .p) (c .before .before .before .pre .1 .1) (c .before .if1 .taken) (c .if2 .taken)
+returns c =
+    let start = c .before .before .before in
+    range-short (start .args .w .now) (start .args .p) (start .pre .1 .1) (c .before .if1 .taken) (c .if2 .taken)
 
 reduce-at-requires : tie.Need-reduce-at-requires
 reduce-at-requires c κs = let fits = parts-in (c .before .before .args .w .now) 0 (c .before .before .args .p) (c .before .before .pre .1 .1) zero-le in (c .before .before .pre .0, (fits, (omega arith, c .before .before .pre .1 .1)))

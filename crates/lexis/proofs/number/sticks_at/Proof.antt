@@ -1,21 +1,10 @@
-use mathlib.Core.Path.{_≡_, refl, sym, ap, _∙_, subst}
-use mathlib.Core.Bool.{Bool, true, false, not, cond, _&&_, _||_}
-use mathlib.Core.Logic.{⊎-elim}
-use mathlib.Core.List.{List, [], _∷_, _++_}
-use Prim.Native.Nat.{ℕ, suc, pred, _+_, _-_, _*_, _≤_, _<_}
-use native.Mathlib.Omega.{arith}
-use lib.Dec.{eqb, leb, ltb}
-use lib.ListN.{length, drop, take, getD}
+-- Past the end stands 0, which does not stick.
 use borrow.Author.Needs.{needs}
-use borrow.Author.Tests.{lt-ltb, le-ltb, le-leb, lt-leb, eq-eqb, ne-eqb, not-true, not-false, leb-true, leb-false, ltb-true, ltb-false, eqb-true, eqb-false}
 use lib.ListN.{List·getD-eq-default}
 use Rattle.lexis.specs.Bytes.{classOf}
-use Rattle.lexis.specs.Lexeme.{sticks}
+use Rattle.lexis.specs.Number.{sticks}
 use Rattle.lexis.proofs.number.sticks_at.Statement.{statement}
 use Rattle.lexis.proofs.number.sticks_at.Tie as tie
-use Rattle.lexis.proofs.number.sticks_at.Reads as reads
-use Rattle.lexis.proofs.number.sticks_at.Lts as lts
-use Rattle.lexis.proofs.number.sticks_to.Reads as sticks-to-reads
 
 returns : tie.Need-returns
 unfolding sticks classOf

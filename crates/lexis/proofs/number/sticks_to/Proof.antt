@@ -1,19 +1,9 @@
-use mathlib.Core.Path.{_≡_, refl, sym, ap, _∙_, subst}
-use mathlib.Core.Bool.{Bool, true, false, not, cond, _&&_, _||_}
-use mathlib.Core.Logic.{⊎-elim}
-use mathlib.Core.List.{List, [], _∷_, _++_}
-use Prim.Native.Nat.{ℕ, suc, pred, _+_, _-_, _*_, _≤_, _<_}
-use native.Mathlib.Omega.{arith}
-use lib.Dec.{eqb, leb, ltb}
-use lib.ListN.{length, drop, take, getD}
+-- The cases of `sticks`.
 use borrow.Author.Needs.{needs}
-use borrow.Author.Tests.{lt-ltb, le-ltb, le-leb, lt-leb, eq-eqb, ne-eqb, not-true, not-false, leb-true, leb-false, ltb-true, ltb-false, eqb-true, eqb-false}
-use Rattle.lexis.specs.Lexeme.{sticks}
+use borrow.Author.Tests.{eq-eqb, ne-eqb}
+use Rattle.lexis.specs.Number.{sticks}
 use Rattle.lexis.proofs.number.sticks_to.Statement.{statement}
 use Rattle.lexis.proofs.number.sticks_to.Tie as tie
-use Rattle.lexis.proofs.number.sticks_to.Reads as reads
-use Rattle.lexis.proofs.number.sticks_to.Lts as lts
-use Rattle.lexis.proofs.class.class_of.Reads as class-of-reads
 
 class-of-requires : tie.Need-class-of-requires
 class-of-requires c κs = search needs

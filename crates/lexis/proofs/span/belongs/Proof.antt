@@ -1,18 +1,8 @@
-use mathlib.Core.Path.{_≡_, refl, sym, ap, _∙_, subst}
-use mathlib.Core.Bool.{Bool, true, false, not, cond, _&&_, _||_}
-use mathlib.Core.Logic.{⊎-elim}
-use mathlib.Core.List.{List, [], _∷_, _++_}
-use Prim.Native.Nat.{ℕ, suc, pred, _+_, _-_, _*_, _≤_, _<_}
-use native.Mathlib.Omega.{arith}
-use lib.Dec.{eqb, leb, ltb}
-use lib.ListN.{length, drop, take, getD}
+-- Each run, by the class of the byte or by its bounds.
 use borrow.Author.Needs.{needs}
-use borrow.Author.Tests.{lt-ltb, le-ltb, le-leb, lt-leb, eq-eqb, ne-eqb, not-true, not-false, leb-true, leb-false, ltb-true, ltb-false, eqb-true, eqb-false}
+use borrow.Author.Tests.{le-leb, lt-leb, eq-eqb, ne-eqb}
 use Rattle.lexis.proofs.span.belongs.Statement.{statement}
 use Rattle.lexis.proofs.span.belongs.Tie as tie
-use Rattle.lexis.proofs.span.belongs.Reads as reads
-use Rattle.lexis.proofs.span.belongs.Lts as lts
-use Rattle.lexis.proofs.class.class_of.Reads as class-of-reads
 
 enum-told : tie.Need-enum-told
 enum-told c = search needs

@@ -1,22 +1,14 @@
-use mathlib.Core.Path.{_≡_, refl, sym, ap, _∙_, subst}
-use mathlib.Core.Bool.{Bool, true, false, not, cond, _&&_, _||_}
-use mathlib.Core.Logic.{⊎-elim}
-use mathlib.Core.List.{List, [], _∷_, _++_}
-use Prim.Native.Nat.{ℕ, suc, pred, _+_, _-_, _*_, _≤_, _<_}
+-- The end of the run from here is that from the start; four bytes at a turn.
+use mathlib.Core.Path.{_≡_, refl, sym, _∙_}
+use Prim.Native.Nat.{_+_, _-_, _≤_}
 use native.Mathlib.Omega.{arith}
-use lib.Dec.{eqb, leb, ltb}
-use lib.ListN.{length, drop, take, getD}
+use lib.ListN.{length, drop}
 use borrow.Author.Needs.{needs}
-use borrow.Author.Tests.{lt-ltb, le-ltb, le-leb, lt-leb, eq-eqb, ne-eqb, not-true, not-false, leb-true, leb-false, ltb-true, ltb-false, eqb-true, eqb-false}
+use borrow.Author.Tests.{not-true, not-false}
 use Rattle.lexis.specs.Bytes.{isNamePart, spanLen}
-use Rattle.lexis.proofs.Runs.{span-more, span-stop}
-use Rattle.lexis.proofs.Runs.{span-step}
+use Rattle.lexis.proofs.Runs.{span-stop, span-step}
 use Rattle.lexis.proofs.span.name_end.Statement.{statement}
 use Rattle.lexis.proofs.span.name_end.Tie as tie
-use Rattle.lexis.proofs.span.name_end.Reads as reads
-use Rattle.lexis.proofs.span.name_end.Lts as lts
-use Rattle.lexis.proofs.span.belongs.Reads as belongs-reads
-use Rattle.lexis.proofs.span.run_end.Reads as run-end-reads
 
 abbrev Inv-loop : tie.InvT-loop
 Inv-loop classes text from i₀ i = (i ≤ length text) × (from + spanLen isNamePart (drop from text) ≡ i + spanLen isNamePart (drop i text))
@@ -37,7 +29,10 @@ belongs-requires : tie.Need-belongs-requires Inv-loop μ-loop
 belongs-requires c κs = search needs
 
 returns : tie.Need-returns Inv-loop μ-loop
-returns c = sym (c .before .before .before .before .loop .inv .1 ∙ span-stop isNamePart (c .before .before .before .before .before .before .args .text .now) (c .before .before .before .before .loop .i) (omega arith) (sym (c .before .belongs .ensures) ∙ not-true _ (c .if1 .taken)))
+returns c =
+    let at-loop = c .before .before .before .before in
+    let start = at-loop .before .before in
+    sym (at-loop .loop .inv .1 ∙ span-stop isNamePart (start .args .text .now) (at-loop .loop .i) (omega arith) (sym (c .before .belongs .ensures) ∙ not-true _ (c .if1 .taken)))
 
 add-second : tie.Need-add-second Inv-loop μ-loop
 add-second c = search needs
@@ -49,7 +44,16 @@ belongs-requires-2 : tie.Need-belongs-requires-2 Inv-loop μ-loop
 belongs-requires-2 c κs = search needs
 
 returns-2 : tie.Need-returns-2 Inv-loop μ-loop
-returns-2 c = sym (c .before .before .before .before .before .before .before .loop .inv .1 ∙ span-step isNamePart (c .before .before .before .before .before .before .before .before .before .args .text .now) (c .before .before .before .before .before .before .before .loop .i) ((c .before .before .before .before .before .before .before .loop .i) + 1) (omega arith) (omega arith) (sym (c .before .before .before .before .belongs .ensures) ∙ not-false _ (c .before .before .before .if1 .left)) ∙ span-stop isNamePart (c .before .before .before .before .before .before .before .before .before .args .text .now) ((c .before .before .before .before .before .before .before .loop .i) + 1) (omega arith) (sym (c .before .belongs2 .ensures) ∙ not-true _ (c .if2 .taken)))
+returns-2 c =
+    let at-if1 = c .before .before .before in
+    let at-belongs = at-if1 .before in
+    let at-loop = at-belongs .before .before .before in
+    let start = at-loop .before .before in
+    let i = at-loop .loop .i in
+    let text = start .args .text .now in
+    sym (at-loop .loop .inv .1
+    ∙ span-step isNamePart text i (i + 1) (omega arith) (omega arith) (sym (at-belongs .belongs .ensures) ∙ not-false _ (at-if1 .if1 .left))
+    ∙ span-stop isNamePart text (i + 1) (omega arith) (sym (c .before .belongs2 .ensures) ∙ not-true _ (c .if2 .taken)))
 
 add-third : tie.Need-add-third Inv-loop μ-loop
 add-third c = search needs
@@ -61,7 +65,19 @@ belongs-requires-3 : tie.Need-belongs-requires-3 Inv-loop μ-loop
 belongs-requires-3 c κs = search needs
 
 returns-3 : tie.Need-returns-3 Inv-loop μ-loop
-returns-3 c = sym (c .before .before .before .before .before .before .before .before .before .before .loop .inv .1 ∙ span-step isNamePart (c .before .before .before .before .before .before .before .before .before .before .before .before .args .text .now) (c .before .before .before .before .before .before .before .before .before .before .loop .i) ((c .before .before .before .before .before .before .before .before .before .before .loop .i) + 1) (omega arith) (omega arith) (sym (c .before .before .before .before .before .before .before .belongs .ensures) ∙ not-false _ (c .before .before .before .before .before .before .if1 .left)) ∙ span-step isNamePart (c .before .before .before .before .before .before .before .before .before .before .before .before .args .text .now) ((c .before .before .before .before .before .before .before .before .before .before .loop .i) + 1) ((c .before .before .before .before .before .before .before .before .before .before .loop .i) + 2) (omega arith) (omega arith) (sym (c .before .before .before .before .belongs2 .ensures) ∙ not-false _ (c .before .before .before .if2 .left)) ∙ span-stop isNamePart (c .before .before .before .before .before .before .before .before .before .before .before .before .args .text .now) ((c .before .before .before .before .before .before .before .before .before .before .loop .i) + 2) (omega arith) (sym (c .before .belongs3 .ensures) ∙ not-true _ (c .if3 .taken)))
+returns-3 c =
+    let at-if2 = c .before .before .before in
+    let at-belongs2 = at-if2 .before in
+    let at-if1 = at-belongs2 .before .before in
+    let at-belongs = at-if1 .before in
+    let at-loop = at-belongs .before .before .before in
+    let start = at-loop .before .before in
+    let i = at-loop .loop .i in
+    let text = start .args .text .now in
+    sym (at-loop .loop .inv .1
+    ∙ span-step isNamePart text i (i + 1) (omega arith) (omega arith) (sym (at-belongs .belongs .ensures) ∙ not-false _ (at-if1 .if1 .left))
+    ∙ span-step isNamePart text (i + 1) (i + 2) (omega arith) (omega arith) (sym (at-belongs2 .belongs2 .ensures) ∙ not-false _ (at-if2 .if2 .left))
+    ∙ span-stop isNamePart text (i + 2) (omega arith) (sym (c .before .belongs3 .ensures) ∙ not-true _ (c .if3 .taken)))
 
 add-fourth : tie.Need-add-fourth Inv-loop μ-loop
 add-fourth c = search needs
@@ -73,7 +89,22 @@ belongs-requires-4 : tie.Need-belongs-requires-4 Inv-loop μ-loop
 belongs-requires-4 c κs = search needs
 
 returns-4 : tie.Need-returns-4 Inv-loop μ-loop
-returns-4 c = sym (c .before .before .before .before .before .before .before .before .before .before .before .before .before .loop .inv .1 ∙ span-step isNamePart (c .before .before .before .before .before .before .before .before .before .before .before .before .before .before .before .args .text .now) (c .before .before .before .before .before .before .before .before .before .before .before .before .before .loop .i) ((c .before .before .before .before .before .before .before .before .before .before .before .before .before .loop .i) + 1) (omega arith) (omega arith) (sym (c .before .before .before .before .before .before .before .before .before .before .belongs .ensures) ∙ not-false _ (c .before .before .before .before .before .before .before .before .before .if1 .left)) ∙ span-step isNamePart (c .before .before .before .before .before .before .before .before .before .before .before .before .before .before .before .args .text .now) ((c .before .before .before .before .before .before .before .before .before .before .before .before .before .loop .i) + 1) ((c .before .before .before .before .before .before .before .before .before .before .before .before .before .loop .i) + 2) (omega arith) (omega arith) (sym (c .before .before .before .before .before .before .before .belongs2 .ensures) ∙ not-false _ (c .before .before .before .before .before .before .if2 .left)) ∙ span-step isNamePart (c .before .before .before .before .before .before .before .before .before .before .before .before .before .before .before .args .text .now) ((c .before .before .before .before .before .before .before .before .before .before .before .before .before .loop .i) + 2) ((c .before .before .before .before .before .before .before .before .before .before .before .before .before .loop .i) + 3) (omega arith) (omega arith) (sym (c .before .before .before .before .belongs3 .ensures) ∙ not-false _ (c .before .before .before .if3 .left)) ∙ span-stop isNamePart (c .before .before .before .before .before .before .before .before .before .before .before .before .before .before .before .args .text .now) ((c .before .before .before .before .before .before .before .before .before .before .before .before .before .loop .i) + 3) (omega arith) (sym (c .before .belongs4 .ensures) ∙ not-true _ (c .if4 .taken)))
+returns-4 c =
+    let at-if3 = c .before .before .before in
+    let at-belongs3 = at-if3 .before in
+    let at-if2 = at-belongs3 .before .before in
+    let at-belongs2 = at-if2 .before in
+    let at-if1 = at-belongs2 .before .before in
+    let at-belongs = at-if1 .before in
+    let at-loop = at-belongs .before .before .before in
+    let start = at-loop .before .before in
+    let i = at-loop .loop .i in
+    let text = start .args .text .now in
+    sym (at-loop .loop .inv .1
+    ∙ span-step isNamePart text i (i + 1) (omega arith) (omega arith) (sym (at-belongs .belongs .ensures) ∙ not-false _ (at-if1 .if1 .left))
+    ∙ span-step isNamePart text (i + 1) (i + 2) (omega arith) (omega arith) (sym (at-belongs2 .belongs2 .ensures) ∙ not-false _ (at-if2 .if2 .left))
+    ∙ span-step isNamePart text (i + 2) (i + 3) (omega arith) (omega arith) (sym (at-belongs3 .belongs3 .ensures) ∙ not-false _ (at-if3 .if3 .left))
+    ∙ span-stop isNamePart text (i + 3) (omega arith) (sym (c .before .belongs4 .ensures) ∙ not-true _ (c .if4 .taken)))
 
 add-i : tie.Need-add-i Inv-loop μ-loop
 add-i c = search needs
@@ -82,7 +113,24 @@ loop-less : tie.Need-loop-less Inv-loop μ-loop
 loop-less c = search needs
 
 loop-again : tie.Need-loop-again Inv-loop μ-loop
-loop-again c = (omega arith, c .before .before .before .before .before .before .before .before .before .before .before .before .before .loop .inv .1 ∙ span-step isNamePart (c .before .before .before .before .before .before .before .before .before .before .before .before .before .before .before .args .text .now) (c .before .before .before .before .before .before .before .before .before .before .before .before .before .loop .i) ((c .before .before .before .before .before .before .before .before .before .before .before .before .before .loop .i) + 1) (omega arith) (omega arith) (sym (c .before .before .before .before .before .before .before .before .before .before .belongs .ensures) ∙ not-false _ (c .before .before .before .before .before .before .before .before .before .if1 .left)) ∙ span-step isNamePart (c .before .before .before .before .before .before .before .before .before .before .before .before .before .before .before .args .text .now) ((c .before .before .before .before .before .before .before .before .before .before .before .before .before .loop .i) + 1) ((c .before .before .before .before .before .before .before .before .before .before .before .before .before .loop .i) + 2) (omega arith) (omega arith) (sym (c .before .before .before .before .before .before .before .belongs2 .ensures) ∙ not-false _ (c .before .before .before .before .before .before .if2 .left)) ∙ span-step isNamePart (c .before .before .before .before .before .before .before .before .before .before .before .before .before .before .before .args .text .now) ((c .before .before .before .before .before .before .before .before .before .before .before .before .before .loop .i) + 2) ((c .before .before .before .before .before .before .before .before .before .before .before .before .before .loop .i) + 3) (omega arith) (omega arith) (sym (c .before .before .before .before .belongs3 .ensures) ∙ not-false _ (c .before .before .before .if3 .left)) ∙ span-step isNamePart (c .before .before .before .before .before .before .before .before .before .before .before .before .before .before .before .args .text .now) ((c .before .before .before .before .before .before .before .before .before .before .before .before .before .loop .i) + 3) ((c .before .before .before .before .before .before .before .before .before .before .before .before .before .loop .i) + 4) (omega arith) (omega arith) (sym (c .before .belongs4 .ensures) ∙ not-false _ (c .if4 .left)))
+loop-again c =
+    let at-if3 = c .before .before .before in
+    let at-belongs3 = at-if3 .before in
+    let at-if2 = at-belongs3 .before .before in
+    let at-belongs2 = at-if2 .before in
+    let at-if1 = at-belongs2 .before .before in
+    let at-belongs = at-if1 .before in
+    let at-loop = at-belongs .before .before .before in
+    let start = at-loop .before .before in
+    let i = at-loop .loop .i in
+    let text = start .args .text .now in (
+      omega arith,
+      at-loop .loop .inv .1
+          ∙ span-step isNamePart text i (i + 1) (omega arith) (omega arith) (sym (at-belongs .belongs .ensures) ∙ not-false _ (at-if1 .if1 .left))
+          ∙ span-step isNamePart text (i + 1) (i + 2) (omega arith) (omega arith) (sym (at-belongs2 .belongs2 .ensures) ∙ not-false _ (at-if2 .if2 .left))
+          ∙ span-step isNamePart text (i + 2) (i + 3) (omega arith) (omega arith) (sym (at-belongs3 .belongs3 .ensures) ∙ not-false _ (at-if3 .if3 .left))
+          ∙ span-step isNamePart text (i + 3) (i + 4) (omega arith) (omega arith) (sym (c .before .belongs4 .ensures) ∙ not-false _ (c .if4 .left)),
+    )
 
 run-end-requires : tie.Need-run-end-requires Inv-loop μ-loop
 run-end-requires c κs = search needs

@@ -1,20 +1,14 @@
-use mathlib.Core.Path.{_≡_, refl, sym, ap, _∙_}
-use mathlib.Core.Bool.{Bool, true, false, not}
-use mathlib.Core.Logic.{⊎-elim}
-use Prim.Native.Nat.{ℕ, _+_, _-_, _≤_, _<_}
-use native.Mathlib.Omega.{arith}
-use lib.Dec.{eqb}
-use lib.ListN.{length, drop, getD}
+-- The end of the run from here is that from the start.
+use mathlib.Core.Path.{_≡_, refl, sym, _∙_}
+use Prim.Native.Nat.{_+_, _-_}
+use lib.ListN.{length, drop}
 use borrow.Author.Needs.{needs}
-use borrow.Author.Tests.{lt-ltb, le-ltb, le-leb, lt-leb, eq-eqb, ne-eqb, not-true, not-false}
+use borrow.Author.Tests.{not-true, not-false}
 use Rattle.lexis.specs.Bytes.{spanLen}
 use Rattle.lexis.specs.Runs.{passes}
 use Rattle.lexis.proofs.Runs.{span-more, span-stop, span-end}
 use Rattle.lexis.proofs.span.run_end.Statement.{statement}
 use Rattle.lexis.proofs.span.run_end.Tie as tie
-use Rattle.lexis.proofs.span.run_end.Reads as reads
-use Rattle.lexis.proofs.span.run_end.Lts as lts
-use Rattle.lexis.proofs.span.belongs.Reads as belongs-reads
 
 abbrev Inv-loop : tie.InvT-loop
 Inv-loop classes text from run i₀ i = from + spanLen (passes run) (drop from text) ≡ i + spanLen (passes run) (drop i text)

@@ -1,20 +1,12 @@
-use mathlib.Core.Path.{_≡_, refl, sym, ap, _∙_, subst}
-use mathlib.Core.Bool.{Bool, true, false, not, cond, _&&_, _||_}
+-- One law of `Marks` for each answer.
+use mathlib.Core.Path.{sym, _∙_}
 use mathlib.Core.Logic.{⊎-elim}
-use mathlib.Core.List.{List, [], _∷_, _++_}
-use Prim.Native.Nat.{ℕ, suc, pred, _+_, _-_, _*_, _≤_, _<_}
-use native.Mathlib.Omega.{arith}
-use lib.Dec.{eqb, leb, ltb}
-use lib.ListN.{length, drop, take, getD}
 use borrow.Author.Needs.{needs}
-use borrow.Author.Tests.{lt-ltb, le-ltb, le-leb, lt-leb, eq-eqb, ne-eqb, not-true, not-false, leb-true, leb-false, ltb-true, ltb-false, eqb-true, eqb-false}
+use borrow.Author.Tests.{eq-eqb, ne-eqb}
 use mathlib.Core.Bool.{and-false}
 use Rattle.lexis.proofs.Marks.{mark-same, mark-equal, mark-alone, mark-pair, mark-arrow, mark-single, mark-double, mark-lone, mark-none}
 use Rattle.lexis.proofs.token.mark_of.Statement.{statement}
 use Rattle.lexis.proofs.token.mark_of.Tie as tie
-use Rattle.lexis.proofs.token.mark_of.Reads as reads
-use Rattle.lexis.proofs.token.mark_of.Lts as lts
-use Rattle.lexis.proofs.token.takes_equal.Reads as takes-equal-reads
 
 returns : tie.Need-returns
 returns c = mark-same _ _ _ (c .before .before .before .pre) (c .before .if2 .taken) (c .if3 .taken)
@@ -29,13 +21,19 @@ takes-equal-requires : tie.Need-takes-equal-requires
 takes-equal-requires c κs = search needs
 
 returns-4 : tie.Need-returns-4
-returns-4 c = mark-pair _ _ _ (c .before .before .before .before .before .pre) (c .before .before .before .if4 .taken) (c .before .before .if5 .taken) (sym (c .before .takes-equal .ensures) ∙ c .if6 .taken)
+returns-4 c =
+    let at-if4 = c .before .before .before in
+    let start = at-if4 .before .before in
+    mark-pair _ _ _ (start .pre) (at-if4 .if4 .taken) (c .before .before .if5 .taken) (sym (c .before .takes-equal .ensures) ∙ c .if6 .taken)
 
 returns-5 : tie.Need-returns-5
 returns-5 c = mark-arrow _ _ _ (c .before .before .before .before .before .pre) (c .before .if7 .taken) (c .if8 .taken)
 
 returns-6 : tie.Need-returns-6
-returns-6 c = mark-single _ _ _ (c .before .before .before .before .before .pre) (c .before .before .before .if4 .taken) (rw (c .before .if7 .taken)) (rw (ne-eqb _ 45 (c .if8 .left)))
+returns-6 c =
+    let at-if4 = c .before .before .before in
+    let start = at-if4 .before .before in
+    mark-single _ _ _ (start .pre) (at-if4 .if4 .taken) (rw (c .before .if7 .taken)) (rw (ne-eqb _ 45 (c .if8 .left)))
 
 returns-7 : tie.Need-returns-7
 returns-7 c = mark-single _ _ _ (c .before .before .before .before .pre) (c .before .before .if4 .taken) (⊎-elim (λ w. rw (eq-eqb _ 61 (w .0 .taken), ← w .1 .ensures, w .2 .left)) (λ w. rw (ne-eqb _ 61 (w .left))) (c .before .if5 .came)) (rw (ne-eqb _ 62 (c .if7 .left), and-false))

@@ -1,23 +1,12 @@
-use mathlib.Core.Path.{_≡_, refl, sym, ap, _∙_, subst}
-use mathlib.Core.Bool.{Bool, true, false, not, cond, _&&_, _||_}
-use mathlib.Core.Logic.{⊎-elim}
-use mathlib.Core.List.{List, [], _∷_, _++_}
-use Prim.Native.Nat.{ℕ, suc, pred, _+_, _-_, _*_, _≤_, _<_}
+-- The cases of `stringLexeme`: no closing quote, too long, good.
+use mathlib.Core.Path.{sym, _∙_}
 use native.Mathlib.Numerals.{add-one}
 use native.Mathlib.Omega.{arith}
-use lib.Dec.{eqb, leb, ltb}
-use lib.ListN.{length, drop, take, getD}
 use borrow.Author.Needs.{needs}
-use borrow.Author.Tests.{lt-ltb, le-ltb, le-leb, lt-leb, eq-eqb, ne-eqb, not-true, not-false, leb-true, leb-false, ltb-true, ltb-false, eqb-true, eqb-false}
-use Rattle.lexis.proofs.Fronts.{run-in, string-open, string-long, string-good}
-use Rattle.lexis.specs.Bytes.{isContent}
+use borrow.Author.Tests.{not-true, not-false}
+use Rattle.lexis.proofs.Positions.{run-in, string-open, string-long, string-good}
 use Rattle.lexis.proofs.token.string_at.Statement.{statement}
 use Rattle.lexis.proofs.token.string_at.Tie as tie
-use Rattle.lexis.proofs.token.string_at.Reads as reads
-use Rattle.lexis.proofs.token.string_at.Lts as lts
-use Rattle.lexis.proofs.limits.Limits.string_fits.Reads as string-fits-reads
-use Rattle.lexis.proofs.span.run_end.Reads as run-end-reads
-use Rattle.lexis.proofs.token.byte_at.Reads as byte-at-reads
 
 shared-slice-read-q : tie.Need-shared-slice-read-q
 shared-slice-read-q c = search needs
@@ -44,7 +33,10 @@ returns-2 : tie.Need-returns-2
 returns-2 c = string-long _ _ _ _ (c .before .before .before .before .run-end .ensures) (sym (c .before .before .before .byte-at .ensures) ∙ c .before .before .if1 .left) (sym (c .before .string-fits .ensures) ∙ not-true _ (c .if2 .taken))
 
 add-t13 : tie.Need-add-t13
-add-t13 c = omega (arith, c .before .before .before .before .run-end .ensures, run-in _ _ _ _ (c .before .before .before .before .run-end .ensures) (rw add-one (c .before .before .before .before .before .before .before .pre .1)))
+add-t13 c =
+    let at-run-end = c .before .before .before .before in
+    let start = at-run-end .before .before .before in
+    omega (arith, at-run-end .run-end .ensures, run-in _ _ _ _ (at-run-end .run-end .ensures) (rw add-one (start .pre .1)))
 
 returns-3 : tie.Need-returns-3
 returns-3 c = string-good _ _ _ _ (c .before .before .before .before .run-end .ensures) (sym (c .before .before .before .byte-at .ensures) ∙ c .before .before .if1 .left) (sym (c .before .string-fits .ensures) ∙ not-false _ (c .if2 .left))

@@ -1,23 +1,12 @@
-use mathlib.Core.Path.{_≡_, refl, sym, ap, _∙_, subst}
-use mathlib.Core.Bool.{Bool, true, false, not, cond, _&&_, _||_}
-use mathlib.Core.Logic.{⊎-elim}
-use mathlib.Core.List.{List, [], _∷_, _++_}
-use Prim.Native.Nat.{ℕ, suc, pred, _+_, _-_, _*_, _≤_, _<_}
+-- The cases of `wordLexeme`: too long, good.
+use mathlib.Core.Path.{sym, _∙_}
 use native.Mathlib.Nat.{le-of-lt}
 use native.Mathlib.Omega.{arith}
-use lib.Dec.{eqb, leb, ltb}
-use lib.ListN.{length, drop, take, getD}
 use borrow.Author.Needs.{needs}
-use borrow.Author.Tests.{lt-ltb, le-ltb, le-leb, lt-leb, eq-eqb, ne-eqb, not-true, not-false, leb-true, leb-false, ltb-true, ltb-false, eqb-true, eqb-false}
-use Rattle.lexis.proofs.Fronts.{run-in, word-long, word-good}
-use Rattle.lexis.specs.Bytes.{isNamePart}
+use borrow.Author.Tests.{not-true, not-false}
+use Rattle.lexis.proofs.Positions.{run-in, word-long, word-good}
 use Rattle.lexis.proofs.token.word_at.Statement.{statement}
 use Rattle.lexis.proofs.token.word_at.Tie as tie
-use Rattle.lexis.proofs.token.word_at.Reads as reads
-use Rattle.lexis.proofs.token.word_at.Lts as lts
-use Rattle.lexis.proofs.limits.Limits.name_fits.Reads as name-fits-reads
-use Rattle.lexis.proofs.span.name_end.Reads as name-end-reads
-use Rattle.lexis.proofs.word.kind_of_word.Reads as kind-of-word-reads
 
 name-end-requires : tie.Need-name-end-requires
 name-end-requires c κs = search needs

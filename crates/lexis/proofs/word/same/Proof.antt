@@ -1,19 +1,12 @@
-use mathlib.Core.Path.{_≡_, refl, sym, ap, _∙_, subst}
-use mathlib.Core.Bool.{Bool, true, false, not, cond, _&&_, _||_}
-use mathlib.Core.Logic.{⊎-elim}
-use mathlib.Core.List.{List, [], _∷_, _++_}
-use Prim.Native.Nat.{ℕ, suc, pred, _+_, _-_, _*_, _≤_, _<_}
-use native.Mathlib.Omega.{arith}
-use lib.Dec.{eqb, leb, ltb}
-use lib.ListN.{length, drop, take, getD}
+-- The texts are the same where their rests from i on are.
+use mathlib.Core.Path.{_≡_, refl, sym, _∙_}
+use Prim.Native.Nat.{_-_}
+use lib.ListN.{length, drop}
 use borrow.Author.Needs.{needs}
-use borrow.Author.Tests.{lt-ltb, le-ltb, le-leb, lt-leb, eq-eqb, ne-eqb, not-true, not-false, leb-true, leb-false, ltb-true, ltb-false, eqb-true, eqb-false}
 use Rattle.lexis.specs.Words.{sameBytes}
-use Rattle.lexis.proofs.Texts.{same-lengths, same-differ, same-agree, same-end}
+use Rattle.lexis.proofs.Spellings.{same-lengths, same-differ, same-agree, same-end}
 use Rattle.lexis.proofs.word.same.Statement.{statement}
 use Rattle.lexis.proofs.word.same.Tie as tie
-use Rattle.lexis.proofs.word.same.Reads as reads
-use Rattle.lexis.proofs.word.same.Lts as lts
 
 abbrev Inv-loop : tie.InvT-loop
 Inv-loop a b i₀ i = sameBytes a b ≡ sameBytes (drop i a) (drop i b)

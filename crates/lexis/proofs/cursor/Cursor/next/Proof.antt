@@ -1,22 +1,12 @@
-use mathlib.Core.Path.{_≡_, refl, sym, ap, _∙_, subst}
-use mathlib.Core.Bool.{Bool, true, false, not, cond, _&&_, _||_}
-use mathlib.Core.Logic.{⊎-elim}
-use mathlib.Core.List.{List, [], _∷_, _++_}
-use Prim.Native.Nat.{ℕ, suc, pred, _+_, _-_, _*_, _≤_, _<_}
+-- One law of `Cursors` for each answer: the end, white space, a comment, a fault, too many, a token.
+use mathlib.Core.Path.{sym, _∙_}
 use native.Mathlib.Omega.{arith}
-use lib.Dec.{eqb, leb, ltb}
-use lib.ListN.{length, drop, take, getD}
 use borrow.Author.Needs.{needs}
-use borrow.Author.Tests.{lt-ltb, le-ltb, le-leb, lt-leb, eq-eqb, ne-eqb, not-true, not-false, leb-true, leb-false, ltb-true, ltb-false, eqb-true, eqb-false}
+use borrow.Author.Tests.{not-true, not-false, ltb-true}
+use Rattle.lexis.specs.Sizes.{maxTokens}
 use Rattle.lexis.proofs.Cursors.{step-end, step-spaces, step-comment, step-fault, step-many, step-next, token-in}
 use Rattle.lexis.proofs.cursor.Cursor.next.Statement.{statement}
 use Rattle.lexis.proofs.cursor.Cursor.next.Tie as tie
-use Rattle.lexis.proofs.cursor.Cursor.next.Reads as reads
-use Rattle.lexis.proofs.cursor.Cursor.next.Lts as lts
-use Rattle.lexis.proofs.class.class_of.Reads as class-of-reads
-use Rattle.lexis.proofs.limits.Limits.token_fits.Reads as token-fits-reads
-use Rattle.lexis.proofs.span.run_end.Reads as run-end-reads
-use Rattle.lexis.proofs.token.token_at.Reads as token-at-reads
 
 returns : tie.Need-returns
 returns c = step-end (c .before .before .args .text .now) (c .before .before .args .self) (c .if1 .taken)
@@ -34,7 +24,10 @@ run-end-requires : tie.Need-run-end-requires
 run-end-requires c κs = search needs
 
 returns-2 : tie.Need-returns-2
-returns-2 c = step-spaces (c .before .before .before .before .before .before .args .text .now) (c .before .before .before .before .before .before .args .self) (c .before .before .before .before .if1 .left) _ (c .before .before .class-of .ensures) _ (c .before .if2 .taken) (c .run-end .ensures)
+returns-2 c =
+    let at-if1 = c .before .before .before .before in
+    let start = at-if1 .before .before in
+    step-spaces (start .args .text .now) (start .args .self) (at-if1 .if1 .left) _ (c .before .before .class-of .ensures) _ (c .before .if2 .taken) (c .run-end .ensures)
 
 add-run-end-2 : tie.Need-add-run-end-2
 add-run-end-2 c = search needs
@@ -43,7 +36,11 @@ run-end-requires-2 : tie.Need-run-end-requires-2
 run-end-requires-2 c κs = search needs
 
 returns-3 : tie.Need-returns-3
-returns-3 c = step-comment (c .before .before .before .before .before .before .before .args .text .now) (c .before .before .before .before .before .before .before .args .self) (c .before .before .before .before .before .if1 .left) _ (c .before .before .before .class-of .ensures) _ (c .before .if3 .taken) (c .run-end2 .ensures)
+returns-3 c =
+    let at-class-of = c .before .before .before in
+    let at-if1 = at-class-of .before .before in
+    let start = at-if1 .before .before in
+    step-comment (start .args .text .now) (start .args .self) (at-if1 .if1 .left) _ (at-class-of .class-of .ensures) _ (c .before .if3 .taken) (c .run-end2 .ensures)
 
 token-at-requires : tie.Need-token-at-requires
 token-at-requires c κs = search needs
@@ -58,22 +55,57 @@ token-fits-requires : tie.Need-token-fits-requires
 token-fits-requires c κs = search needs
 
 returns-4 : tie.Need-returns-4
-returns-4 c = step-many (c .before .before .before .before .before .before .before .before .before .before .before .before .args .text .now) (c .before .before .before .before .before .before .before .before .before .before .before .before .args .self) (c .before .before .before .before .before .before .before .before .before .before .if1 .left) _ (c .before .before .before .before .before .before .before .before .class-of .ensures) (c .before .before .before .before .before .before .before .if2 .left) (c .before .before .before .before .before .before .if3 .left) _ (c .before .before .before .before .before .token-at .ensures) _ _ (c .before .before .before .kind .given .1) (sym (c .before .token-fits .ensures) ∙ not-true _ (c .if4 .taken))
+returns-4 c =
+    let at-kind = c .before .before .before in
+    let at-token-at = at-kind .before .before in
+    let at-if3 = at-token-at .before in
+    let at-if2 = at-if3 .before in
+    let at-class-of = at-if2 .before in
+    let at-if1 = at-class-of .before .before in
+    let start = at-if1 .before .before in
+    step-many (start .args .text .now) (start .args .self) (at-if1 .if1 .left) _ (at-class-of .class-of .ensures) (at-if2 .if2 .left) (at-if3 .if3 .left) _ (at-token-at .token-at .ensures) _ _ (at-kind .kind .given .1) (sym (c .before .token-fits .ensures) ∙ not-true _ (c .if4 .taken))
 
 add-t26 : tie.Need-add-t26
-add-t26 c = omega (arith, token-in (c .before .before .before .before .before .before .before .before .before .before .before .before .args .text .now) (c .before .before .before .before .before .before .before .before .before .before .before .before .args .self) _ _ _ (c .before .before .before .before .before .before .before .before .before .before .if1 .left) (c .before .before .before .before .before .token-at .ensures) (c .before .before .before .kind .given .1))
+add-t26 c =
+    let at-kind = c .before .before .before in
+    let at-token-at = at-kind .before .before in
+    let at-if1 = at-token-at .before .before .before .before .before in
+    let start = at-if1 .before .before in
+    omega (arith, token-in (start .args .text .now) (start .args .self) _ _ _ (at-if1 .if1 .left) (at-token-at .token-at .ensures) (at-kind .kind .given .1))
 
 add-t28 : tie.Need-add-t28
-add-t28 c = omega (arith, token-in (c .before .before .before .before .before .before .before .before .before .before .before .before .args .text .now) (c .before .before .before .before .before .before .before .before .before .before .before .before .args .self) _ _ _ (c .before .before .before .before .before .before .before .before .before .before .if1 .left) (c .before .before .before .before .before .token-at .ensures) (c .before .before .before .kind .given .1))
+add-t28 c =
+    let at-kind = c .before .before .before in
+    let at-token-at = at-kind .before .before in
+    let at-if1 = at-token-at .before .before .before .before .before in
+    let start = at-if1 .before .before in
+    omega (arith, token-in (start .args .text .now) (start .args .self) _ _ _ (at-if1 .if1 .left) (at-token-at .token-at .ensures) (at-kind .kind .given .1))
 
 add-t29 : tie.Need-add-t29
-add-t29 c = omega (arith, ltb-true (c .before .before .before .before .before .before .before .before .before .before .before .before .args .self .count) 4096 (sym (c .before .token-fits .ensures) ∙ not-false _ (c .if4 .left)))
+add-t29 c =
+    let start = c .before .before .before .before .before .before .before .before .before .before .before .before in
+    omega (arith, ltb-true (start .args .self .count) maxTokens (sym (c .before .token-fits .ensures) ∙ not-false _ (c .if4 .left)))
 
 returns-5 : tie.Need-returns-5
-returns-5 c = step-fault (c .before .before .before .before .before .before .before .before .before .before .args .text .now) (c .before .before .before .before .before .before .before .before .before .before .args .self) (c .before .before .before .before .before .before .before .before .if1 .left) _ (c .before .before .before .before .before .before .class-of .ensures) (c .before .before .before .before .before .if2 .left) (c .before .before .before .before .if3 .left) _ (c .before .before .before .token-at .ensures) _ (c .before .code .given .1)
+returns-5 c =
+    let at-token-at = c .before .before .before in
+    let at-if3 = at-token-at .before in
+    let at-if2 = at-if3 .before in
+    let at-class-of = at-if2 .before in
+    let at-if1 = at-class-of .before .before in
+    let start = at-if1 .before .before in
+    step-fault (start .args .text .now) (start .args .self) (at-if1 .if1 .left) _ (at-class-of .class-of .ensures) (at-if2 .if2 .left) (at-if3 .if3 .left) _ (at-token-at .token-at .ensures) _ (c .before .code .given .1)
 
 returns-6 : tie.Need-returns-6
-returns-6 c = step-next (c .before .before .before .before .before .before .before .before .before .before .before .before .args .text .now) (c .before .before .before .before .before .before .before .before .before .before .before .before .args .self) (c .before .before .before .before .before .before .before .before .before .before .if1 .left) _ (c .before .before .before .before .before .before .before .before .class-of .ensures) (c .before .before .before .before .before .before .before .if2 .left) (c .before .before .before .before .before .before .if3 .left) _ (c .before .before .before .before .before .token-at .ensures) _ _ (c .before .before .before .kind .given .1) (sym (c .before .token-fits .ensures) ∙ not-false _ (c .if4 .left))
+returns-6 c =
+    let at-kind = c .before .before .before in
+    let at-token-at = at-kind .before .before in
+    let at-if3 = at-token-at .before in
+    let at-if2 = at-if3 .before in
+    let at-class-of = at-if2 .before in
+    let at-if1 = at-class-of .before .before in
+    let start = at-if1 .before .before in
+    step-next (start .args .text .now) (start .args .self) (at-if1 .if1 .left) _ (at-class-of .class-of .ensures) (at-if2 .if2 .left) (at-if3 .if3 .left) _ (at-token-at .token-at .ensures) _ _ (at-kind .kind .given .1) (sym (c .before .token-fits .ensures) ∙ not-false _ (c .if4 .left))
 
 pub next-spec : {M : Type 1} → statement M
 next-spec =

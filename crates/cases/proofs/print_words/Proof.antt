@@ -1,0 +1,72 @@
+-- The invariant: no more than n words are passed.
+use Prim.Native.Nat.{_-_, _≤_}
+use borrow.Author.Needs.{needs}
+use Rattle.cases.proofs.print_words.Statement.{statement}
+use Rattle.cases.proofs.print_words.Tie as tie
+use Rattle.cases.proofs.print_words.Reads as reads
+use Rattle.cases.proofs.print_words.Lts as lts
+use Rattle.cases.proofs.print_number.Reads as print-number-reads
+use Rattle.io.proofs.write_all.Reads as write-all-reads
+
+abbrev Inv-loop : tie.InvT-loop
+Inv-loop table n i₀ t4 i = i ≤ n
+
+abbrev μ-loop : tie.MeasureT-loop
+μ-loop table n i₀ t4 i = n - i
+
+-- src/main.rt:35:5
+loop-holds : tie.Need-loop-holds Inv-loop μ-loop
+loop-holds c = search needs
+
+-- src/main.rt:37:30
+slice-aggregate-write-all : tie.Need-slice-aggregate-write-all Inv-loop μ-loop
+slice-aggregate-write-all c = search needs
+
+-- src/main.rt:37:13
+write-all-requires : tie.Need-write-all-requires Inv-loop μ-loop
+write-all-requires c κs = search needs
+
+-- src/main.rt:38:26
+mul-print-number : tie.Need-mul-print-number Inv-loop μ-loop
+mul-print-number c = search needs
+
+-- src/main.rt:38:26
+shared-slice-read-print-number : tie.Need-shared-slice-read-print-number Inv-loop μ-loop
+shared-slice-read-print-number c = search needs
+
+-- src/main.rt:38:13
+print-number-requires : tie.Need-print-number-requires Inv-loop μ-loop
+print-number-requires c κs = search needs
+
+-- src/main.rt:40:9
+add-i : tie.Need-add-i Inv-loop μ-loop
+add-i c = search needs
+
+-- src/main.rt:35:5
+loop-less : tie.Need-loop-less Inv-loop μ-loop
+loop-less c = search needs
+
+-- src/main.rt:35:5
+loop-again : tie.Need-loop-again Inv-loop μ-loop
+loop-again c = search needs
+
+-- src/main.rt:33:1
+returns : tie.Need-returns Inv-loop μ-loop
+returns c = tt
+
+pub print-words-spec : {M : Type 1} → statement M
+print-words-spec =
+    tie.close
+    (tie.spec
+    Inv-loop
+    μ-loop
+    loop-holds
+    slice-aggregate-write-all
+    write-all-requires
+    mul-print-number
+    shared-slice-read-print-number
+    print-number-requires
+    add-i
+    loop-less
+    loop-again
+    returns)

@@ -1,0 +1,57 @@
+-- What holds of the lexer, for every text and every table. Each claim follows in a few lines from the files below.
+-- Relies on `Places` for the tokens, `Values` for numbers, `Answers` for the table.
+use mathlib.Core.Path.{_≡_, refl, subst}
+use mathlib.Core.List.{List}
+use Prim.Native.Nat.{ℕ, zero-le, _*_, _≤_, _<_}
+use native.Mathlib.Omega.{arith}
+use lib.ListN.{length, getD}
+use Rattle.lexis.specs.Sizes.{maxTokens, tokenWords}
+use Rattle.lexis.specs.Number.{partsOf, reducedOf, IsReduced}
+use Rattle.lexis.specs.Lexer.{Token, Lexed, accepted, refused, lex, Placed, Kinded}
+use Rattle.lexis.specs.Answer.{tokensAnswer, tokensTable}
+use Rattle.lexis.proofs.Places.{Fine, fine}
+use Rattle.lexis.proofs.Values.{is-reduced}
+use Rattle.lexis.proofs.Answers.{kept, beyond}
+
+all-fine : (text : List ℕ) (l : Lexed) → lex text ≡ l → Fine text 0 0 l
+all-fine text l e = subst (Fine text 0 0) e (fine text 0 0 0 0 text refl zero-le zero-le zero-le)
+
+-- ---- tokens
+
+-- tokens stand in the text one after the other, and their bytes are the text's own
+pub placed : (text : List ℕ) (ts : List Token) → lex text ≡ accepted ts → Placed text 0 ts
+placed text ts e = all-fine text (accepted ts) e .0
+
+-- there are at most 4096
+pub few : (text : List ℕ) (ts : List Token) → lex text ≡ accepted ts → length ts ≤ maxTokens
+few text ts e = let f = all-fine text (accepted ts) e in omega (arith, f .1 .0)
+
+-- their kinds are 1 to 8
+pub kinded : (text : List ℕ) (ts : List Token) → lex text ≡ accepted ts → Kinded ts
+kinded text ts e = all-fine text (accepted ts) e .1 .1
+
+-- ---- refusals
+
+-- a refusal has one of the codes 3 to 8, so never the 0 of acceptance
+pub coded : (text : List ℕ) (c p : ℕ) → lex text ≡ refused c p → (3 ≤ c) × (c ≤ 8)
+coded text c p e = all-fine text (refused c p) e .0
+
+-- its position lies in the text
+pub positioned : (text : List ℕ) (c p : ℕ) → lex text ≡ refused c p → p < length text
+positioned text c p e = all-fine text (refused c p) e .1
+
+-- ---- numbers
+
+-- The reduced number has the value that the number spells, and its mantissa ends in no zero unless the number is 0.
+pub reduced : (w : List ℕ) → IsReduced w (reducedOf w (partsOf w))
+reduced w = is-reduced w
+
+-- ---- the table
+
+-- a call that is refused leaves the table as it was
+pub untouched : (text table : List ℕ) → (tokensAnswer text table .code ≡ 0 → ⊥) → tokensTable text table ≡ table
+untouched text table h = kept text table h
+
+-- words beyond those written keep their contents
+pub kept-beyond : (text table : List ℕ) (i : ℕ) → tokensAnswer text table .detail * tokenWords ≤ i → getD (tokensTable text table) i 0 ≡ getD table i 0
+kept-beyond text table i h = beyond text table i h

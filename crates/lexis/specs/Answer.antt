@@ -1,0 +1,68 @@
+-- What `tokens` answers, and every word of the table afterwards. Relies on `Sizes` and `Code` for the numbers, on `Lexer` for the tokens.
+use Prim.Native.Nat.{ℕ, _+_, _*_, _≤_}
+use mathlib.Core.Path.{_≡_}
+use mathlib.Core.Bool.{cond}
+use mathlib.Core.List.{List, [], _∷_}
+use lib.Dec.{leb}
+use lib.ListN.{length}
+use lib.Seq.{sets}
+use Rattle.lexis.specs.Sizes.{maxText, maxTokens, tokenWords, tableWords}
+use Rattle.lexis.specs.Code as Code
+use Rattle.lexis.specs.Lexer.{Token, Lexed, accepted, refused, lex}
+use Rattle.lexis.specs.declared.Answer.{Answer}
+use Rattle.lexis.specs.declared.Counted.{Counted}
+use Rattle.lexis.specs.declared.Counted.the-variants.{Tokens, Fault}
+
+-- the four numbers: code, text (0 none, 1 the sole text), position, detail
+abbrev pub answer : ℕ → ℕ → ℕ → ℕ → Answer
+answer c t p d = record { code = c; text = t; position = p; detail = d }
+
+-- the words of token records: kind, start, end after the last byte
+unfoldable pub records : List Token → List ℕ
+records [] = []
+records (t ∷ ts) = t .kind ∷ t .start ∷ (t .start + length (t .bytes)) ∷ records ts
+
+-- how many tokens there are, n more counted in, or the fault
+abbrev pub countedAfter : ℕ → Lexed → Counted
+countedAfter n (accepted ts) = Tokens (n + length ts)
+countedAfter n (refused c p) = Fault c p
+
+-- how many tokens there are, or the fault
+abbrev pub counted : Lexed → Counted
+counted l = countedAfter 0 l
+
+-- the four numbers of what is counted: acceptance is 0, 0, 0 and the count; a fault has its code, text 1, its position and 0
+abbrev pub answerOf : Counted → Answer
+answerOf (Tokens n) = answer 0 0 0 n
+answerOf (Fault c p) = answer c 1 p 0
+
+-- the table with the records stored from the word `at` on; a refusal stores nothing
+abbrev pub storedFrom : ℕ → List ℕ → Lexed → List ℕ
+storedFrom at table (accepted ts) = sets table at (records ts)
+storedFrom at table (refused c p) = table
+
+-- the table with the records stored in front
+abbrev pub stored : List ℕ → Lexed → List ℕ
+stored table l = storedFrom 0 table l
+
+-- what `tokens` answers: code 1 for a short table, at 0 and in no text; code 2 for a long text, at 16384; then what the bytes give
+unfoldable pub tokensAnswer : List ℕ → List ℕ → Answer
+tokensAnswer text table =
+    let r = answerOf (counted (lex text)) in
+    cond (leb tableWords (length table)) (cond (leb (length text) maxText) r (answer Code.longText 1 maxText 0)) (answer Code.shortTable 0 0 0)
+
+-- what `tokens` leaves in the table: the records in front on acceptance, else what was there
+unfoldable pub tokensTable : List ℕ → List ℕ → List ℕ
+tokensTable text table =
+    let r = stored table (lex text) in
+    cond (leb tableWords (length table)) (cond (leb (length text) maxText) r table) table
+
+-- what a lexer that writes as it goes leaves in a work area: the records in front on acceptance, anything of the same length on a fault
+abbrev pub Written : Lexed → List ℕ → List ℕ → Type 0
+Written (accepted ts) before after = after ≡ sets before 0 (records ts)
+Written (refused c p) before after = length after ≡ length before
+
+-- what is counted has room in m words
+abbrev pub Room : Counted → ℕ → Type 0
+Room (Tokens n) m = (n ≤ maxTokens) × (n * tokenWords ≤ m)
+Room (Fault c p) m = Unit {0}
