@@ -4,6 +4,7 @@ use crate::class::class_of;
 use crate::code::Code;
 use crate::limits::Limits;
 use crate::span::Run;
+use crate::span::long_run_end;
 use crate::span::run_end;
 use crate::token::Lexeme;
 use crate::token::token_at;
@@ -59,7 +60,7 @@ impl Cursor {
             });
         }
         if k == Class::COMMENT {
-            let end = run_end(classes, text, at + 1, Run::Comment);
+            let end = long_run_end(classes, text, at + 1, Run::Comment);
             return Step::Gap(Cursor {
                 at: end,
                 count: count,

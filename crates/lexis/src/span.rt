@@ -4,7 +4,7 @@ use crate::class::class_of;
 ghost use mathlib.Core.Path.{_≡_};
 ghost use Prim.Native.Nat.{_+_, _≤_};
 ghost use lib.ListN.{length, drop};
-ghost use Rattle.lexis.specs.Bytes.{classTable, isNamePart, spanLen};
+ghost use Rattle.lexis.specs.Bytes.{classTable, spanLen};
 ghost use Rattle.lexis.specs.Runs.{passes};
 
 // What a run is made of: digits; letters, underscores and digits; what a string between quotes holds; white space; what a comment
@@ -66,30 +66,30 @@ pub fn run_end(classes: &[u8; 256], text: &[u8], from: usize, run: Run) -> usize
     i
 }
 
-// The end of a name, four bytes at a turn: names are most of a text, and this is `run_end` with a quarter of its tests of the end.
-pub fn name_end(classes: &[u8; 256], text: &[u8], from: usize) -> usize
+// The end of a run that is often long, four bytes at a turn: `run_end` with a quarter of its tests of the text's end.
+pub fn long_run_end(classes: &[u8; 256], text: &[u8], from: usize, run: Run) -> usize
     requires { ⌜ now classes ≡ classTable ⌝ }
     requires { ⌜ from ≤ length (now text) ⌝ }
-    ensures { λ r. ⌜ r ≡ from + spanLen isNamePart (drop from (now (text .entry))) ⌝ }
+    ensures { λ r. ⌜ r ≡ from + spanLen (passes run) (drop from (now (text .entry))) ⌝ }
 {
     let mut i = from;
     while 4 <= text.len() - i {
-        if !belongs(classes, Run::NameParts, text[i]) {
+        if !belongs(classes, run, text[i]) {
             return i;
         }
         let second = i + 1;
-        if !belongs(classes, Run::NameParts, text[second]) {
+        if !belongs(classes, run, text[second]) {
             return second;
         }
         let third = i + 2;
-        if !belongs(classes, Run::NameParts, text[third]) {
+        if !belongs(classes, run, text[third]) {
             return third;
         }
         let fourth = i + 3;
-        if !belongs(classes, Run::NameParts, text[fourth]) {
+        if !belongs(classes, run, text[fourth]) {
             return fourth;
         }
         i += 4;
     }
-    run_end(classes, text, i, Run::NameParts)
+    run_end(classes, text, i, run)
 }

@@ -5,7 +5,7 @@ use crate::kind::Kind;
 use crate::limits::Limits;
 use crate::number::number_at;
 use crate::span::Run;
-use crate::span::name_end;
+use crate::span::long_run_end;
 use crate::span::run_end;
 use crate::word::kind_of_word;
 ghost use mathlib.Core.Path.{_≡_};
@@ -36,7 +36,7 @@ pub fn word_at(classes: &[u8; 256], text: &[u8], at: usize) -> Lexeme
     requires { ⌜ at < length (now text) ⌝ }
     ensures { λ r. ⌜ r ≡ wordLexeme (drop at (now (text .entry))) ⌝ }
 {
-    let end = name_end(classes, text, at);
+    let end = long_run_end(classes, text, at, Run::NameParts);
     let n = end - at;
     if !Limits::name_fits(n) {
         return Lexeme::Fault(Code::TOO_LONG);

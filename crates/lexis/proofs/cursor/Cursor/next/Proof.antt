@@ -29,18 +29,18 @@ returns-2 c =
     let start = at-if1 .before .before in
     step-spaces (start .args .text .now) (start .args .self) (at-if1 .if1 .left) _ (c .before .before .class-of .ensures) _ (c .before .if2 .taken) (c .run-end .ensures)
 
-add-run-end-2 : tie.Need-add-run-end-2
-add-run-end-2 c = search needs
+add-long-run-end : tie.Need-add-long-run-end
+add-long-run-end c = search needs
 
-run-end-requires-2 : tie.Need-run-end-requires-2
-run-end-requires-2 c κs = search needs
+long-run-end-requires : tie.Need-long-run-end-requires
+long-run-end-requires c κs = search needs
 
 returns-3 : tie.Need-returns-3
 returns-3 c =
     let at-class-of = c .before .before .before in
     let at-if1 = at-class-of .before .before in
     let start = at-if1 .before .before in
-    step-comment (start .args .text .now) (start .args .self) (at-if1 .if1 .left) _ (at-class-of .class-of .ensures) _ (c .before .if3 .taken) (c .run-end2 .ensures)
+    step-comment (start .args .text .now) (start .args .self) (at-if1 .if1 .left) _ (at-class-of .class-of .ensures) _ (c .before .if3 .taken) (c .long-run-end .ensures)
 
 token-at-requires : tie.Need-token-at-requires
 token-at-requires c κs = search needs
@@ -117,8 +117,8 @@ next-spec =
     add-run-end
     run-end-requires
     returns-2
-    add-run-end-2
-    run-end-requires-2
+    add-long-run-end
+    long-run-end-requires
     returns-3
     token-at-requires
     enum-known-code

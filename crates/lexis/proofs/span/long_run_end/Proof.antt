@@ -5,16 +5,17 @@ use native.Mathlib.Omega.{arith}
 use lib.ListN.{length, drop}
 use borrow.Author.Needs.{needs}
 use borrow.Author.Tests.{not-true, not-false}
-use Rattle.lexis.specs.Bytes.{isNamePart, spanLen}
+use Rattle.lexis.specs.Bytes.{spanLen}
+use Rattle.lexis.specs.Runs.{passes}
 use Rattle.lexis.proofs.Runs.{span-stop, span-step}
-use Rattle.lexis.proofs.span.name_end.Statement.{statement}
-use Rattle.lexis.proofs.span.name_end.Tie as tie
+use Rattle.lexis.proofs.span.long_run_end.Statement.{statement}
+use Rattle.lexis.proofs.span.long_run_end.Tie as tie
 
 abbrev Inv-loop : tie.InvT-loop
-Inv-loop classes text from i₀ i = (i ≤ length text) × (from + spanLen isNamePart (drop from text) ≡ i + spanLen isNamePart (drop i text))
+Inv-loop classes text from run i₀ i = (i ≤ length text) × (from + spanLen (passes run) (drop from text) ≡ i + spanLen (passes run) (drop i text))
 
 abbrev μ-loop : tie.MeasureT-loop
-μ-loop classes text from i₀ i = length text - i
+μ-loop classes text from run i₀ i = length text - i
 
 loop-holds : tie.Need-loop-holds Inv-loop μ-loop
 loop-holds c = (c .before .pre .1, refl)
@@ -32,7 +33,7 @@ returns : tie.Need-returns Inv-loop μ-loop
 returns c =
     let at-loop = c .before .before .before .before in
     let start = at-loop .before .before in
-    sym (at-loop .loop .inv .1 ∙ span-stop isNamePart (start .args .text .now) (at-loop .loop .i) (omega arith) (sym (c .before .belongs .ensures) ∙ not-true _ (c .if1 .taken)))
+    sym (at-loop .loop .inv .1 ∙ span-stop (passes (start .args .run)) (start .args .text .now) (at-loop .loop .i) (omega arith) (sym (c .before .belongs .ensures) ∙ not-true _ (c .if1 .taken)))
 
 add-second : tie.Need-add-second Inv-loop μ-loop
 add-second c = search needs
@@ -50,10 +51,11 @@ returns-2 c =
     let at-loop = at-belongs .before .before .before in
     let start = at-loop .before .before in
     let i = at-loop .loop .i in
+    let run = start .args .run in
     let text = start .args .text .now in
     sym (at-loop .loop .inv .1
-    ∙ span-step isNamePart text i (i + 1) (omega arith) (omega arith) (sym (at-belongs .belongs .ensures) ∙ not-false _ (at-if1 .if1 .left))
-    ∙ span-stop isNamePart text (i + 1) (omega arith) (sym (c .before .belongs2 .ensures) ∙ not-true _ (c .if2 .taken)))
+    ∙ span-step (passes run) text i (i + 1) (omega arith) (omega arith) (sym (at-belongs .belongs .ensures) ∙ not-false _ (at-if1 .if1 .left))
+    ∙ span-stop (passes run) text (i + 1) (omega arith) (sym (c .before .belongs2 .ensures) ∙ not-true _ (c .if2 .taken)))
 
 add-third : tie.Need-add-third Inv-loop μ-loop
 add-third c = search needs
@@ -73,11 +75,12 @@ returns-3 c =
     let at-loop = at-belongs .before .before .before in
     let start = at-loop .before .before in
     let i = at-loop .loop .i in
+    let run = start .args .run in
     let text = start .args .text .now in
     sym (at-loop .loop .inv .1
-    ∙ span-step isNamePart text i (i + 1) (omega arith) (omega arith) (sym (at-belongs .belongs .ensures) ∙ not-false _ (at-if1 .if1 .left))
-    ∙ span-step isNamePart text (i + 1) (i + 2) (omega arith) (omega arith) (sym (at-belongs2 .belongs2 .ensures) ∙ not-false _ (at-if2 .if2 .left))
-    ∙ span-stop isNamePart text (i + 2) (omega arith) (sym (c .before .belongs3 .ensures) ∙ not-true _ (c .if3 .taken)))
+    ∙ span-step (passes run) text i (i + 1) (omega arith) (omega arith) (sym (at-belongs .belongs .ensures) ∙ not-false _ (at-if1 .if1 .left))
+    ∙ span-step (passes run) text (i + 1) (i + 2) (omega arith) (omega arith) (sym (at-belongs2 .belongs2 .ensures) ∙ not-false _ (at-if2 .if2 .left))
+    ∙ span-stop (passes run) text (i + 2) (omega arith) (sym (c .before .belongs3 .ensures) ∙ not-true _ (c .if3 .taken)))
 
 add-fourth : tie.Need-add-fourth Inv-loop μ-loop
 add-fourth c = search needs
@@ -99,12 +102,13 @@ returns-4 c =
     let at-loop = at-belongs .before .before .before in
     let start = at-loop .before .before in
     let i = at-loop .loop .i in
+    let run = start .args .run in
     let text = start .args .text .now in
     sym (at-loop .loop .inv .1
-    ∙ span-step isNamePart text i (i + 1) (omega arith) (omega arith) (sym (at-belongs .belongs .ensures) ∙ not-false _ (at-if1 .if1 .left))
-    ∙ span-step isNamePart text (i + 1) (i + 2) (omega arith) (omega arith) (sym (at-belongs2 .belongs2 .ensures) ∙ not-false _ (at-if2 .if2 .left))
-    ∙ span-step isNamePart text (i + 2) (i + 3) (omega arith) (omega arith) (sym (at-belongs3 .belongs3 .ensures) ∙ not-false _ (at-if3 .if3 .left))
-    ∙ span-stop isNamePart text (i + 3) (omega arith) (sym (c .before .belongs4 .ensures) ∙ not-true _ (c .if4 .taken)))
+    ∙ span-step (passes run) text i (i + 1) (omega arith) (omega arith) (sym (at-belongs .belongs .ensures) ∙ not-false _ (at-if1 .if1 .left))
+    ∙ span-step (passes run) text (i + 1) (i + 2) (omega arith) (omega arith) (sym (at-belongs2 .belongs2 .ensures) ∙ not-false _ (at-if2 .if2 .left))
+    ∙ span-step (passes run) text (i + 2) (i + 3) (omega arith) (omega arith) (sym (at-belongs3 .belongs3 .ensures) ∙ not-false _ (at-if3 .if3 .left))
+    ∙ span-stop (passes run) text (i + 3) (omega arith) (sym (c .before .belongs4 .ensures) ∙ not-true _ (c .if4 .taken)))
 
 add-i : tie.Need-add-i Inv-loop μ-loop
 add-i c = search needs
@@ -123,13 +127,14 @@ loop-again c =
     let at-loop = at-belongs .before .before .before in
     let start = at-loop .before .before in
     let i = at-loop .loop .i in
+    let run = start .args .run in
     let text = start .args .text .now in (
       omega arith,
       at-loop .loop .inv .1
-          ∙ span-step isNamePart text i (i + 1) (omega arith) (omega arith) (sym (at-belongs .belongs .ensures) ∙ not-false _ (at-if1 .if1 .left))
-          ∙ span-step isNamePart text (i + 1) (i + 2) (omega arith) (omega arith) (sym (at-belongs2 .belongs2 .ensures) ∙ not-false _ (at-if2 .if2 .left))
-          ∙ span-step isNamePart text (i + 2) (i + 3) (omega arith) (omega arith) (sym (at-belongs3 .belongs3 .ensures) ∙ not-false _ (at-if3 .if3 .left))
-          ∙ span-step isNamePart text (i + 3) (i + 4) (omega arith) (omega arith) (sym (c .before .belongs4 .ensures) ∙ not-false _ (c .if4 .left)),
+          ∙ span-step (passes run) text i (i + 1) (omega arith) (omega arith) (sym (at-belongs .belongs .ensures) ∙ not-false _ (at-if1 .if1 .left))
+          ∙ span-step (passes run) text (i + 1) (i + 2) (omega arith) (omega arith) (sym (at-belongs2 .belongs2 .ensures) ∙ not-false _ (at-if2 .if2 .left))
+          ∙ span-step (passes run) text (i + 2) (i + 3) (omega arith) (omega arith) (sym (at-belongs3 .belongs3 .ensures) ∙ not-false _ (at-if3 .if3 .left))
+          ∙ span-step (passes run) text (i + 3) (i + 4) (omega arith) (omega arith) (sym (c .before .belongs4 .ensures) ∙ not-false _ (c .if4 .left)),
     )
 
 run-end-requires : tie.Need-run-end-requires Inv-loop μ-loop
@@ -138,8 +143,8 @@ run-end-requires c κs = search needs
 returns-5 : tie.Need-returns-5 Inv-loop μ-loop
 returns-5 c = c .run-end .ensures ∙ sym (c .before .before .loop .inv .1)
 
-pub name-end-spec : {M : Type 1} → statement M
-name-end-spec =
+pub long-run-end-spec : {M : Type 1} → statement M
+long-run-end-spec =
     tie.close
     (tie.spec
     Inv-loop
