@@ -1,5 +1,7 @@
-// Runs cases and prints what each answers. A case is a line of standard input: a letter that says which operation, a blank, and the
-// text. T: the tokens of the text, with the words of its table.
+// Runs cases and prints what each answers. A case is a line of standard input: a letter, a blank, and a text. T: the tokens of the text,
+// with the words of its table. L, D: the bytes and the syntax of an operation list, or of a document, with the number of tokens.
+use lexis::Counted;
+use syntax::Syntax;
 ghost use mathlib.Core.Path.{_≡_};
 ghost use Prim.Native.Nat.{_≤_};
 ghost use lib.ListN.{length};
@@ -53,6 +55,29 @@ fn tokens_case(text: &[u8]) {
     }
 }
 
+// The answer of reading a text: how many tokens, or the first fault.
+fn syntax_case(text: &[u8], which: Syntax) {
+    if !lexis::limits::Limits::text_fits(text.len()) {
+        return;
+    }
+    let classes = lexis::class::CLASSES;
+    let mut work = [0u32; 12288];
+    match syntax::read(&classes, text, &mut work, which) {
+        Counted::Tokens(n) => print_answer(lexis::Answer {
+            code: 0,
+            text: 0,
+            position: 0,
+            detail: n,
+        }),
+        Counted::Fault { code, at } => print_answer(lexis::Answer {
+            code: code,
+            text: 1,
+            position: at,
+            detail: 0,
+        }),
+    }
+}
+
 // One case: its line, and its answer below.
 fn case(line: &[u8]) {
     io::write_all(1, line);
@@ -64,6 +89,12 @@ fn case(line: &[u8]) {
     let text = &line[2..];
     if which == b'T' {
         tokens_case(text);
+    }
+    if which == b'L' {
+        syntax_case(text, Syntax::List);
+    }
+    if which == b'D' {
+        syntax_case(text, Syntax::Document);
     }
     io::write_all(1, b"\n");
 }

@@ -1,0 +1,103 @@
+-- What only the contracts of inner functions cite.
+use mathlib.Core.Bool.{Bool, true, cond, _&&_, _||_}
+use mathlib.Core.List.{List, [], _∷_}
+use Prim.Native.Nat.{ℕ, zero, suc}
+use lib.Dec.{eqb}
+use Rattle.lexis.specs.Sizes.{maxBrackets}
+use Rattle.lexis.specs.Lexer.{Token}
+use Rattle.syntax.specs.Symbol.{symOf, isLiteral, leftRound, rightRound, leftSquare, leftCurly, rightCurly, equal, semicolon, arrow, aName, aNumber, version, graph, tensorWord, extentWord, scalarWord, logicalWord, stringWord}
+use Rattle.syntax.specs.Tree.{Ty, Param, Result, Arg, Call}
+use Rattle.syntax.specs.Grammar.{Leaves, names, literals, both, takesNames, takesLiterals}
+use Rattle.syntax.specs.Parser.{Reader, then, expect, begins, rest, plain, commas, closed, row, tupleTypes, baseStep, type, param, result, argument, call}
+use Rattle.syntax.specs.Parser.Parse.{ok, bad}
+use Rattle.syntax.specs.declared.Parsed.{Parsed}
+use Rattle.syntax.specs.declared.Parsed.the-variants.{Done, Fault}
+use Rattle.syntax.specs.declared.value.Leaves as L
+use Rattle.syntax.specs.declared.value.Leaves.the-variants.{Names, Literals, Both}
+use Rattle.syntax.specs.declared.list.Item as I
+use Rattle.syntax.specs.declared.list.Item.the-variants as W
+
+-- ---- terminals
+
+-- the number that stands for no token
+abbrev pub theEnd : ℕ
+theEnd = 267
+
+-- the terminal of the first token
+abbrev pub lookahead : List Token → ℕ
+lookahead [] = theEnd
+lookahead (t ∷ ts) = symOf t
+
+-- ---- one reader after another
+
+-- on from the place that an answer has reached
+abbrev pub onwards : Parsed → (ℕ → Parsed) → Parsed
+onwards (Done j) k = k j
+onwards (Fault c q) k = Fault c q
+
+-- ---- values
+
+abbrev pub leavesOf : L.Leaves → Leaves
+leavesOf Names = names
+leavesOf Literals = literals
+leavesOf Both = both
+
+unfoldable pub isLeaf : Leaves → ℕ → Bool
+isLeaf m s = takesNames m && eqb s aName || takesLiterals m && isLiteral s
+
+abbrev pub opens : ℕ → Bool
+opens s = eqb s leftSquare || eqb s leftRound
+
+-- ---- types
+
+unfoldable pub isTypeWord : ℕ → Bool
+isTypeWord s = cond (eqb s tensorWord) true (cond (eqb s extentWord) true (cond (eqb s scalarWord) true (cond (eqb s logicalWord) true (eqb s stringWord))))
+
+-- a type without its pairs of square brackets
+unfoldable pub baseOf : ℕ → Reader Ty
+baseOf zero ts = baseStep (λ t us. bad 10 (t ∷ us)) ts
+baseOf (suc b) ts = baseStep (λ t us. tupleTypes (type b) us) ts
+
+-- ---- lists
+
+-- a name and an equals sign
+abbrev pub isLabel : List Token → Bool
+isLabel ts = eqb (lookahead ts) aName && eqb (lookahead (rest ts)) equal
+
+-- the trees of a list's items, and their reader
+abbrev pub TreeOf : I.Item → Type 0
+TreeOf W.Name = Token
+TreeOf W.Parameter = Param
+TreeOf W.Result = Result
+TreeOf W.Argument = Arg
+
+abbrev pub reader : (w : I.Item) → Reader (TreeOf w)
+reader W.Name = expect aName
+reader W.Parameter = param maxBrackets
+reader W.Result = result maxBrackets
+reader W.Argument = argument maxBrackets
+
+-- ---- documents
+
+abbrev pub semicolonOf : Reader (List Token)
+semicolonOf ts = ok [] (cond (begins semicolon ts) (rest ts) ts)
+
+-- version, number, graph, name, inputs
+unfoldable pub inputsOf : Reader (List Token)
+inputsOf ts =
+    then (expect version ts) (λ v us.
+    then (expect aNumber us) (λ l us.
+    then (expect graph us) (λ g us.
+    then (expect aName us) (λ n us.
+    then (expect leftRound us) (λ o us.
+    row plain (commas rightRound) (expect aName) us)))))
+
+-- and all that follows, up to the closing bracket
+unfoldable pub graphOf : Reader (List Call)
+graphOf ts =
+    then (inputsOf ts) (λ is us.
+    then (expect arrow us) (λ a us.
+    then (expect leftRound us) (λ o us.
+    then (row plain (commas rightRound) (expect aName) us) (λ os us.
+    then (expect leftCurly us) (λ q us.
+    row plain (closed rightCurly) (call maxBrackets) us)))))

@@ -1,0 +1,31 @@
+-- What reading a text gives: the tokens that its bytes spell, if they are of the syntax that is asked for.
+use mathlib.Core.List.{List}
+use Prim.Native.Nat.{ℕ}
+use lib.ListN.{length}
+use Rattle.lexis.specs.Lexer.{Token, Lexed, accepted, refused, lex}
+use Rattle.lexis.specs.declared.Counted.{Counted}
+use Rattle.lexis.specs.declared.Counted.the-variants as C
+use Rattle.syntax.specs.Parser.{parseList, parseDocument}
+use Rattle.syntax.specs.Table.{parsed}
+use Rattle.syntax.specs.declared.Parsed.{Parsed}
+use Rattle.syntax.specs.declared.Parsed.the-variants as P
+use Rattle.syntax.specs.declared.Syntax.{Syntax}
+use Rattle.syntax.specs.declared.Syntax.the-variants as S
+
+-- what the reader of a list or a document answers over n tokens of a text that ends at `end`
+abbrev pub syntaxOf : Syntax → ℕ → ℕ → List Token → Parsed
+syntaxOf S.List end n ts = parsed end n (parseList ts)
+syntaxOf S.Document end n ts = parsed end n (parseDocument ts)
+
+-- n tokens, or the fault
+abbrev pub agreed : ℕ → Parsed → Counted
+agreed n (P.Done j) = C.Tokens n
+agreed n (P.Fault c q) = C.Fault c q
+
+-- bytes first, then syntax
+abbrev pub readAfter : Syntax → ℕ → Lexed → Counted
+readAfter w end (accepted ts) = agreed (length ts) (syntaxOf w end (length ts) ts)
+readAfter w end (refused c p) = C.Fault c p
+
+abbrev pub readOf : Syntax → List ℕ → Counted
+readOf w text = readAfter w (length text) (lex text)

@@ -1,0 +1,50 @@
+-- The tokens that a table of records holds, and what a reader over the table answers.
+use mathlib.Core.Path.{_≡_}
+use Prim.Native.Nat.{ℕ, zero, suc, _+_, _-_, _*_, _<_, _≤_}
+use mathlib.Core.List.{List, [], _∷_}
+use lib.ListN.{length, getD, take, drop}
+use Rattle.lexis.specs.Lexer.{Token}
+use Rattle.lexis.specs.Sizes.{tokenWords}
+use Rattle.syntax.specs.Parser.{Parse}
+use Rattle.syntax.specs.Parser.Parse.{ok, bad}
+use Rattle.syntax.specs.declared.Parsed.{Parsed}
+use Rattle.syntax.specs.declared.Parsed.the-variants.{Done, Fault}
+
+-- kind, start and end after the last byte of the token at place i
+abbrev pub kindAt : List ℕ → ℕ → ℕ
+kindAt table i = getD table (i * tokenWords) 0
+
+abbrev pub startAt : List ℕ → ℕ → ℕ
+startAt table i = getD table (i * tokenWords + 1) 0
+
+abbrev pub endAt : List ℕ → ℕ → ℕ
+endAt table i = getD table (i * tokenWords + 2) 0
+
+-- the token at place i of a table over a text
+unfoldable pub tokenAt : List ℕ → List ℕ → ℕ → Token
+tokenAt text table i =
+    record { kind = kindAt table i; start = startAt table i; bytes = take (endAt table i - startAt table i) (drop (startAt table i) text) }
+
+-- the k tokens from place i on
+unfoldable pub tokensFrom : List ℕ → List ℕ → ℕ → ℕ → List Token
+tokensFrom text table i zero = []
+tokensFrom text table i (suc k) = tokenAt text table i ∷ tokensFrom text table (i + 1) k
+
+-- the tokens from place i up to place n
+abbrev pub toks : List ℕ → List ℕ → ℕ → ℕ → List Token
+toks text table n i = tokensFrom text table i (n - i)
+
+-- the table has n records, each of a token that is not empty and lies in the text
+pub record Holds (text table : List ℕ) (n : ℕ) : Type 0 where
+  pub room : n * tokenWords ≤ length table
+  pub within : (i : ℕ) → i < n → (startAt table i < endAt table i) × (endAt table i ≤ length text)
+
+-- the place of a fault: its token's start, or the text's end
+abbrev pub placeOf : ℕ → List Token → ℕ
+placeOf end [] = end
+placeOf end (t ∷ ts) = t .start
+
+-- what a reader over n tokens of a text that ends at `end` answers: how many tokens were passed, or the code and the place of the fault
+abbrev pub parsed : {A : Type 0} → ℕ → ℕ → Parse A → Parsed
+parsed end n (ok a ts) = Done (n - length ts)
+parsed end n (bad c ts) = Fault c (placeOf end ts)

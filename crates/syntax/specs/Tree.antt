@@ -1,0 +1,71 @@
+-- The trees of the flat syntax. They hold tokens, so that a rule can say where it is broken.
+use mathlib.Core.List.{List}
+use mathlib.Core.Option.{Option}
+use Rattle.lexis.specs.Lexer.{Token}
+
+-- ---- values, left sides, defaults
+
+-- A value: a name, a literal, an array or a tuple. An array or a tuple keeps its first token, which is the opening bracket, or,
+-- for a bare tuple on the left, the first token of its first item.
+mutual
+  pub data Value : Type 0 where
+    name : Token → Value
+    literal : Token → Value
+    array : Token → Values → Value
+    tuple : Token → Values → Value
+
+  pub data Values : Type 0 where
+    none : Values
+    more : Value → Values → Values
+
+-- ---- types
+
+mutual
+  pub data Ty : Type 0 where
+    tensor extent scalar logical string : Ty
+    arrayOf : Ty → Ty
+    tupleOf : Tys → Ty
+
+  pub data Tys : Type 0 where
+    no-type : Tys
+    a-type : Ty → Tys → Tys
+
+-- ---- operation lists
+
+-- `name : type`, with its default where there is one
+pub record Param : Type 0 where
+  pub name : Token
+  pub ty : Ty
+  pub default : Option Value
+
+pub record Result : Type 0 where
+  pub name : Token
+  pub ty : Ty
+
+-- A header: the word `fragment`, the operation's name, its parameters and results.
+pub record Header : Type 0 where
+  pub keyword : Token
+  pub name : Token
+  pub params : List Param
+  pub results : List Result
+
+-- ---- documents
+
+-- an argument without and with its parameter's name
+pub data Arg : Type 0 where
+  positional : Value → Arg
+  named : Token → Value → Arg
+
+-- A call: what it assigns, the operation's name, its arguments.
+pub record Call : Type 0 where
+  pub left : Value
+  pub op : Token
+  pub args : List Arg
+
+-- A document: the literal after `version`, the graph's name, inputs and outputs, its calls.
+pub record Document : Type 0 where
+  pub version : Token
+  pub graph : Token
+  pub inputs : List Token
+  pub outputs : List Token
+  pub calls : List Call
