@@ -1,6 +1,8 @@
 // Runs cases and prints what each answers. A case is a line of standard input: a letter, a blank, and a text. T: the tokens of the text,
 // with the words of its table. L, D: the bytes and the syntax of an operation list, or of a document, with the number of tokens.
 use lexis::Counted;
+use lexis::code::Code;
+use lexis::limits::Limits;
 use syntax::Syntax;
 ghost use mathlib.Core.Path.{_≡_};
 ghost use Prim.Native.Nat.{_≤_};
@@ -44,24 +46,30 @@ fn print_words(table: &[u32], n: usize) {
 }
 
 fn tokens_case(text: &[u8]) {
-    let mut table = [0u32; 12288];
+    let mut table = [0u32; Limits::TABLE_WORDS];
     let a = lexis::tokens(text, &mut table);
     print_answer(a);
     if a.code == 0 {
-        if a.detail <= 4096 {
+        if size(a.detail) <= Limits::TOKENS {
             io::write_all(1, b" :");
-            print_words(&table, size(a.detail) * 3);
+            print_words(&table, size(a.detail) * Limits::TOKEN_WORDS);
         }
     }
 }
 
 // The answer of reading a text: how many tokens, or the first fault.
 fn syntax_case(text: &[u8], which: Syntax) {
-    if !lexis::limits::Limits::text_fits(text.len()) {
+    if !Limits::text_fits(text.len()) {
+        print_answer(lexis::Answer {
+            code: Code::LONG_TEXT,
+            text: 1,
+            position: 16384,
+            detail: 0,
+        });
         return;
     }
     let classes = lexis::class::CLASSES;
-    let mut work = [0u32; 12288];
+    let mut work = [0u32; Limits::TABLE_WORDS];
     match syntax::read(&classes, text, &mut work, which) {
         Counted::Tokens(n) => print_answer(lexis::Answer {
             code: 0,

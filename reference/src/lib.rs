@@ -1,0 +1,198 @@
+//! A plain Rust reading of flat NNEF text, written from the rules alone. The
+//! proved library is tested against it and timed beside it.
+
+mod binding;
+mod codes;
+mod fault;
+mod fitting;
+mod graph;
+mod lexer;
+mod limits;
+mod number;
+mod parser;
+mod rules;
+mod rules_document;
+mod rules_list;
+mod tree;
+
+use fault::Fault;
+use graph::Graph;
+use lexer::Token;
+use tree::Operation;
+
+/// The text numbers of answers: the operation list or the sole text, and the document.
+const LIST: u32 = 1;
+const DOCUMENT: u32 = 2;
+
+/// The four numbers that every operation answers with.
+#[derive(Clone, Copy, Debug, PartialEq, Eq)]
+pub struct Answer {
+    /// 0 for acceptance, else the fault's code.
+    pub code: u32,
+    /// 0 for no text, 1 for the operation list or the sole text, 2 for the document.
+    pub text: u32,
+    /// The fault's place in that text, in bytes.
+    pub position: u32,
+    /// The count after acceptance; at code 19 the parameter's index; else 0.
+    pub detail: u32,
+}
+
+impl Answer {
+    pub fn numbers(self) -> [u32; 4] {
+        [self.code, self.text, self.position, self.detail]
+    }
+
+    fn accepted(count: usize) -> Answer {
+        Answer {
+            code: 0,
+            text: 0,
+            position: 0,
+            detail: count as u32,
+        }
+    }
+
+    fn room_too_short() -> Answer {
+        Answer {
+            code: codes::ROOM_TOO_SHORT,
+            text: 0,
+            position: 0,
+            detail: 0,
+        }
+    }
+
+    fn refused(text: u32, fault: Fault) -> Answer {
+        Answer {
+            code: fault.code,
+            text,
+            position: fault.position,
+            detail: fault.detail,
+        }
+    }
+}
+
+/// Splits a text into tokens. Each token takes three words of the table: its
+/// kind, its start and its end after the last byte. The table is changed only
+/// when the text is accepted, and then only over the records.
+pub fn tokens(text: &[u8], table: &mut [u32]) -> Answer {
+    if table.len() < limits::TABLE_WORDS {
+        return Answer::room_too_short();
+    }
+    match lexer::length(text).and_then(|()| lexer::lex(text)) {
+        Err(fault) => Answer::refused(LIST, fault),
+        Ok(tokens) => {
+            for (record, token) in table.chunks_exact_mut(3).zip(&tokens) {
+                record.copy_from_slice(&[token.kind as u32, token.start, token.end]);
+            }
+            Answer::accepted(tokens.len())
+        }
+    }
+}
+
+/// Checks an operation list and counts its operations. The work area is zero
+/// afterwards, but for codes 1 and 2, which leave it as it was.
+pub fn declarations(list: &[u8], work: &mut [u32]) -> Answer {
+    if work.len() < limits::WORK_WORDS {
+        return Answer::room_too_short();
+    }
+    if let Err(fault) = lexer::length(list) {
+        return Answer::refused(LIST, fault);
+    }
+    work.fill(0);
+    match good_list(list) {
+        Err(fault) => Answer::refused(LIST, fault),
+        Ok(operations) => Answer::accepted(operations.len()),
+    }
+}
+
+/// Checks a document under an operation list and counts its calls. On acceptance
+/// each call takes four words of the call table (the operation's index, the place
+/// of its name, identifiers assigned, identifiers used) and each use two words
+/// of the wire table (its place, the index of the assigning call). The work areas
+/// are zero afterwards, but for codes 1 and 2, which leave them as they were.
+pub fn check(
+    list: &[u8],
+    document: &[u8],
+    list_work: &mut [u32],
+    document_work: &mut [u32],
+    calls: &mut [u32],
+    wires: &mut [u32],
+) -> Answer {
+    if list_work.len() < limits::WORK_WORDS
+        || document_work.len() < limits::WORK_WORDS
+        || calls.len() < limits::CALL_WORDS
+        || wires.len() < limits::WIRE_WORDS
+    {
+        return Answer::room_too_short();
+    }
+    if let Err(fault) = lexer::length(list) {
+        return Answer::refused(LIST, fault);
+    }
+    if let Err(fault) = lexer::length(document) {
+        return Answer::refused(DOCUMENT, fault);
+    }
+    list_work.fill(0);
+    document_work.fill(0);
+    let operations = match good_list(list) {
+        Err(fault) => return Answer::refused(LIST, fault),
+        Ok(operations) => operations,
+    };
+    match good_document(&operations, document) {
+        Err(fault) => Answer::refused(DOCUMENT, fault),
+        Ok(tables) => {
+            calls[..tables.calls.len()].copy_from_slice(&tables.calls);
+            wires[..tables.wires.len()].copy_from_slice(&tables.wires);
+            Answer::accepted(tables.calls.len() / 4)
+        }
+    }
+}
+
+/// Reads a text as an operation list, without its rules, and counts its tokens.
+pub fn list_syntax(text: &[u8]) -> Answer {
+    syntax(text, |tokens| {
+        parser::operation_list(text, tokens).map(drop)
+    })
+}
+
+/// Reads a text as a document, without its rules, and counts its tokens.
+pub fn document_syntax(text: &[u8]) -> Answer {
+    syntax(text, |tokens| parser::document(text, tokens).map(drop))
+}
+
+fn syntax(text: &[u8], parse: impl Fn(&[Token]) -> Result<(), Fault>) -> Answer {
+    let read = || {
+        lexer::length(text)?;
+        let tokens = lexer::lex(text)?;
+        parse(&tokens)?;
+        Ok(tokens.len())
+    };
+    match read() {
+        Err(fault) => Answer::refused(LIST, fault),
+        Ok(count) => Answer::accepted(count),
+    }
+}
+
+/// The operations of a list that has no fault.
+fn good_list(text: &[u8]) -> Result<Vec<Operation<'_>>, Fault> {
+    let tokens = lexer::lex(text)?;
+    let operations = parser::operation_list(text, &tokens)?;
+    fault::none_of(rules_list::faults(&operations))?;
+    Ok(operations)
+}
+
+/// What check writes.
+struct Tables {
+    calls: Vec<u32>,
+    wires: Vec<u32>,
+}
+
+/// The tables of a document that has no fault.
+fn good_document(list: &[Operation], text: &[u8]) -> Result<Tables, Fault> {
+    let tokens = lexer::lex(text)?;
+    let document = parser::document(text, &tokens)?;
+    let graph = Graph::new(list, &document);
+    fault::none_of(rules_document::faults(&graph))?;
+    Ok(Tables {
+        calls: graph.call_table(),
+        wires: graph.wire_table(),
+    })
+}

@@ -1,0 +1,40 @@
+/* Calls the library from C as a user of include/nnef.h would. */
+#include "nnef.h"
+
+#include <stdio.h>
+#include <string.h>
+
+static const char TEXT[] = "out = scale(px, by = 0.50);";
+
+static uint32_t table[NNEF_TABLE_WORDS];
+
+static nnef_answer tokens_of(const char *text, size_t table_len)
+{
+    return nnef_tokens((const uint8_t *)text, strlen(text), table, table_len);
+}
+
+static int answers(nnef_answer a, uint32_t code, uint32_t text, uint32_t position, uint32_t detail)
+{
+    return a.code == code && a.text == text && a.position == position && a.detail == detail;
+}
+
+static int holds(size_t token, uint32_t kind, uint32_t start, uint32_t end)
+{
+    const uint32_t *record = table + NNEF_TOKEN_WORDS * token;
+    return record[0] == kind && record[1] == start && record[2] == end;
+}
+
+int main(void)
+{
+    int good = answers(tokens_of(TEXT, NNEF_TABLE_WORDS), NNEF_ACCEPTED, 0, 0, 11)
+        && holds(0, NNEF_NAME, 0, 3)
+        && holds(1, NNEF_SYNTACTIC, 4, 5)
+        && holds(8, NNEF_REAL, 21, 25)
+        && holds(10, NNEF_SYNTACTIC, 26, 27)
+        && holds(11, 0, 0, 0)
+        && answers(tokens_of("", NNEF_TABLE_WORDS), NNEF_ACCEPTED, 0, 0, 0)
+        && answers(tokens_of("a = 1.", NNEF_TABLE_WORDS), NNEF_NUMBER_MISSPELT, 1, 4, 0)
+        && answers(tokens_of(TEXT, NNEF_TABLE_WORDS - 1), NNEF_TABLE_TOO_SHORT, 0, 0, 0);
+    puts(good ? "from C: as the header says" : "from C: WRONG");
+    return good ? 0 : 1;
+}

@@ -1,0 +1,28 @@
+//! Compares the library with the reference and with written answers.
+//!
+//! Arguments: the number of random texts (100000), of which a tenth is the
+//! number of random pairs of texts, and the seed (1).
+
+#[path = "../include/nnef.rs"]
+mod library;
+
+mod check;
+mod lent;
+mod program;
+mod tokens;
+
+use program::number;
+use std::process::ExitCode;
+
+fn main() -> ExitCode {
+    let mut arguments = std::env::args().skip(1);
+    let count = number(arguments.next(), 100_000);
+    let seed = number(arguments.next(), 1);
+    let tokens = tokens::run(count, seed);
+    let check = check::run(count / 10, seed);
+    if tokens && check {
+        ExitCode::SUCCESS
+    } else {
+        ExitCode::FAILURE
+    }
+}

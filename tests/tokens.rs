@@ -1,0 +1,138 @@
+//! The operation `tokens`: written cases, then the library against the reference.
+
+mod cases;
+mod inputs;
+
+use crate::lent::{lent, pattern, LentText, GUARD};
+use crate::library;
+use crate::program::{codes_met, shown};
+use cases::Case;
+use nnef_random::Rng;
+
+/// Differences that are printed; all are counted.
+const PRINTED: usize = 10;
+
+type Operation = fn(&[u8], &mut [u32]) -> [u32; 4];
+
+fn library_tokens(text: &[u8], table: &mut [u32]) -> [u32; 4] {
+    library::tokens(text, table).numbers()
+}
+
+fn reference_tokens(text: &[u8], table: &mut [u32]) -> [u32; 4] {
+    nnef_reference::tokens(text, table).numbers()
+}
+
+/// What an operation answered, and the table with its guards afterwards.
+#[derive(PartialEq, Eq)]
+struct Outcome {
+    answer: [u32; 4],
+    words: Vec<u32>,
+}
+
+/// Runs every case and says whether all is right.
+pub fn run(count: u64, seed: u64) -> bool {
+    let wrong = run_written();
+    let different = run_random(count, seed);
+    println!(
+        "tokens: {} written cases, {wrong} wrong",
+        cases::CASES.len()
+    );
+    println!("tokens: {count} cases, {different} differences");
+    wrong == 0 && different == 0
+}
+
+/// Runs both sides on every written case and gives the number of wrong outcomes.
+fn run_written() -> usize {
+    let sides: [(&str, Operation); 2] =
+        [("library", library_tokens), ("reference", reference_tokens)];
+    let mut wrong = 0;
+    for case in cases::CASES {
+        let text = case.text();
+        for (side, operation) in sides {
+            let outcome = outcome(operation, &text, case.table_words);
+            if !is_as_written(&outcome, case) {
+                wrong += 1;
+                println!("{side} is wrong on {}", shown(&text));
+                println!("  answer {:?}, to be {:?}", outcome.answer, case.answer);
+                println!("  table starts {:?}", &outcome.words[GUARD..][..12]);
+            }
+        }
+    }
+    wrong
+}
+
+/// Whether the answer and the records are those of the case, and every other
+/// word is as it was.
+fn is_as_written(outcome: &Outcome, case: &Case) -> bool {
+    let records = case.records.concat();
+    let written = if case.answer[0] == 0 {
+        3 * case.answer[3] as usize
+    } else {
+        0
+    };
+    let before = pattern(case.table_words);
+    outcome.answer == case.answer
+        && outcome.words[GUARD..].starts_with(&records)
+        && outcome.words[..GUARD] == before[..GUARD]
+        && outcome.words[GUARD + written..] == before[GUARD + written..]
+}
+
+/// Compares both sides on random cases and gives the number of differences.
+fn run_random(count: u64, seed: u64) -> usize {
+    let mut by_code = [0usize; 9];
+    let mut different = 0;
+    for case in 0..count {
+        let mut rng = Rng::for_case(seed, case);
+        let (sort, make) = rng.pick(inputs::SORTS);
+        let text = make(&mut rng);
+        let table_words = table_words(&mut rng);
+        let library = outcome(library_tokens, &text, table_words);
+        let reference = outcome(reference_tokens, &text, table_words);
+        by_code[reference.answer[0] as usize] += 1;
+        if library != reference {
+            different += 1;
+            if different <= PRINTED {
+                println!(
+                    "difference in case {case} ({sort}), table of {table_words}: {}",
+                    shown(&text)
+                );
+                print_difference(&library, &reference);
+            }
+        }
+    }
+    println!("tokens by code: {}", codes_met(&by_code));
+    different
+}
+
+fn table_words(rng: &mut Rng) -> usize {
+    match rng.below(100) {
+        0 => 0,
+        1 => 12_287,
+        2 => rng.below(12_288),
+        3..=19 => 12_300,
+        20..=29 => rng.between(12_289, 14_000),
+        _ => 12_288,
+    }
+}
+
+/// Runs an operation on a text with other bytes behind it and a table between guards.
+fn outcome(operation: Operation, text: &[u8], table_words: usize) -> Outcome {
+    let text = LentText::new(text);
+    let mut words = pattern(table_words);
+    let answer = operation(text.lent(), lent(&mut words));
+    Outcome { answer, words }
+}
+
+fn print_difference(library: &Outcome, reference: &Outcome) {
+    println!(
+        "  library {:?}, reference {:?}",
+        library.answer, reference.answer
+    );
+    let mut pairs = library.words.iter().zip(&reference.words).enumerate();
+    if let Some((place, (a, b))) = pairs.find(|(_, (a, b))| a != b) {
+        println!(
+            "  {} words from the table's start: library {a}, reference {b}",
+            place as i64 - GUARD as i64
+        );
+    }
+}
