@@ -78,7 +78,7 @@ module _ {A : Type 0} (R : Phrase A) (close : ℕ) where
   separated-next : Next plain (commas close) R Row-of
   separated-next b ts a m us x ws h (a-comma e) s = next h e s
 
-  separated-reads : {b : ℕ} {item : Reader A} → Shrinks item → Reads R b item → Reads Row-of b (row plain (commas close) item)
+  pub separated-reads : {b : ℕ} {item : Reader A} → Shrinks item → Reads R b item → Reads Row-of b (row plain (commas close) item)
   separated-reads s h = rows plain (commas close) R Row-of separated-last separated-next (mark close .token ∷ []) (a-closer (mark close .is)) s h
 
 -- ---- values

@@ -62,7 +62,7 @@ fn parameter(text: &[u8], table: &[u32], n: usize, at: usize) -> Parsed
 }
 
 // Whether a name and an equals sign stand at place `at`.
-fn is_label(text: &[u8], table: &[u32], n: usize, at: usize) -> bool
+pub fn is_label(text: &[u8], table: &[u32], n: usize, at: usize) -> bool
     requires { ⌜ Holds (now text) (now table) n ⌝ }
     ensures { λ r. ⌜ r ≡ isLabel (toks (now (text .entry)) (now (table .entry)) n at) ⌝ }
 {
@@ -84,7 +84,7 @@ fn argument(text: &[u8], table: &[u32], n: usize, at: usize) -> Parsed
 }
 
 // One item of a list.
-fn one(text: &[u8], table: &[u32], n: usize, at: usize, which: Item) -> Parsed
+pub fn one(text: &[u8], table: &[u32], n: usize, at: usize, which: Item) -> Parsed
     requires { ⌜ Holds (now text) (now table) n ⌝ }
     ensures { λ r. ⌜ r ≡ parsed (length (now (text .entry))) n (reader which (toks (now (text .entry)) (now (table .entry)) n at)) ⌝ }
 {

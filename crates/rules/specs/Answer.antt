@@ -1,0 +1,118 @@
+-- What `declarations` and `check` answer, and every lent word afterwards.
+use Prim.Native.Nat.{ℕ}
+use mathlib.Core.List.{List, [], _∷_}
+use mathlib.Core.Bool.{Bool, true, false, cond, _&&_, _||_}
+use mathlib.Core.Option.{Option, some}
+use mathlib.Core.Option.{none as nothing}
+use lib.Dec.{leb, eqb}
+use lib.ListN.{length, replicate}
+use lib.Seq.{sets}
+use Rattle.lexis.specs.Sizes.{maxText, workWords, callWords, wireWords}
+use Rattle.lexis.specs.Lexer.{Token, Lexed, accepted, refused, lex}
+use Rattle.lexis.specs.Answer.{answer}
+use Rattle.lexis.specs.declared.Answer.{Answer}
+use Rattle.syntax.specs.Tree.{Header, Document}
+use Rattle.syntax.specs.Parser.{Parse, parseList, parseDocument}
+use Rattle.syntax.specs.Parser.Parse.{ok, bad}
+use Rattle.syntax.specs.Table.{placeOf}
+use Rattle.rules.specs.Fault.{Fault, first}
+use Rattle.rules.specs.ListRules.{listFaults}
+use Rattle.rules.specs.DocumentRules.{documentFaults}
+use Rattle.rules.specs.Tables.{callTable, wireTable}
+
+-- ---- stages
+
+-- what a stage comes to: something for the next one, or a refusal
+pub data Stage (A : Type 0) : Type 0 where
+  pass : A → Stage A
+  stop : Answer → Stage A
+
+abbrev pub andThen : {A B : Type 0} → Stage A → (A → Stage B) → Stage B
+andThen (pass a) k = k a
+andThen (stop r) k = stop r
+
+abbrev pub guard : {A : Type 0} → Bool → Answer → Stage A → Stage A
+guard true r s = s
+guard false r s = stop r
+
+-- of text n (1 the list, 2 the document): its bytes, codes 3 to 8; its syntax, codes 9 and 10; its rules, codes 11 to 24
+abbrev pub bytesStage : ℕ → Lexed → Stage (List Token)
+bytesStage n (accepted ts) = pass ts
+bytesStage n (refused c p) = stop (answer c n p 0)
+
+abbrev pub syntaxStage : {A : Type 0} → ℕ → List ℕ → Parse A → Stage A
+syntaxStage n text (ok a ts) = pass a
+syntaxStage n text (bad c ts) = stop (answer c n (placeOf (length text) ts) 0)
+
+abbrev pub rulesStage : {A : Type 0} → ℕ → A → Option Fault → Stage A
+rulesStage n a nothing = pass a
+rulesStage n a (some x) = stop (answer (x .code) n (x .at) (x .detail))
+
+-- the three stages of a list, and of a document under a list
+unfoldable pub listStages : List ℕ → Stage (List Header)
+listStages list =
+    andThen (bytesStage 1 (lex list)) (λ ts.
+    andThen (syntaxStage 1 list (parseList ts)) (λ hs.
+    rulesStage 1 hs (first (listFaults hs))))
+
+unfoldable pub documentStages : List Header → List ℕ → Stage Document
+documentStages hs doc =
+    andThen (bytesStage 2 (lex doc)) (λ ts.
+    andThen (syntaxStage 2 doc (parseDocument ts)) (λ d.
+    rulesStage 2 d (first (documentFaults hs d))))
+
+-- code 1: too little room is lent; code 2: a text is too long
+abbrev pub roomy : {A : Type 0} → Bool → Stage A → Stage A
+roomy b s = guard b (answer 1 0 0 0) s
+
+abbrev pub short : {A : Type 0} → ℕ → List ℕ → Stage A → Stage A
+short n text s = guard (leb (length text) maxText) (answer 2 n maxText 0) s
+
+-- ---- declarations: from a list and the length of its work area
+
+unfoldable pub declared : List ℕ → ℕ → Stage (List Header)
+declared list work = roomy (leb workWords work) (short 1 list (listStages list))
+
+-- acceptance is 0, 0, 0 and a count
+abbrev pub counted : {A : Type 0} → Stage A → (A → ℕ) → Answer
+counted (pass a) n = answer 0 0 0 (n a)
+counted (stop r) n = r
+
+-- acceptance counts operations
+unfoldable pub declarationsAnswer : List ℕ → ℕ → Answer
+declarationsAnswer list work = counted (declared list work) length
+
+-- ---- check: from both texts and the lengths of both work areas, the call table and the wire table
+
+pub record Checked : Type 0 where
+  pub headers : List Header
+  pub document : Document
+
+unfoldable pub checked : List ℕ → List ℕ → ℕ → ℕ → ℕ → ℕ → Stage Checked
+checked list doc work₁ work₂ calls wires =
+    roomy (leb workWords work₁ && (leb workWords work₂ && (leb callWords calls && leb wireWords wires)))
+    (short 1 list
+    (short 2 doc
+    (andThen (listStages list) (λ hs.
+    andThen (documentStages hs doc) (λ d. pass (record { headers = hs; document = d }))))))
+
+-- acceptance counts calls
+unfoldable pub checkAnswer : List ℕ → List ℕ → ℕ → ℕ → ℕ → ℕ → Answer
+checkAnswer list doc work₁ work₂ calls wires = counted (checked list doc work₁ work₂ calls wires) (λ k. length (k .document .calls))
+
+-- ---- lent words afterwards
+
+-- a table: what acceptance writes from its first word on; beyond that, and after a refusal, as it was
+abbrev pub tableAfter : {A : Type 0} → Stage A → (A → List ℕ) → List ℕ → List ℕ
+tableAfter (pass a) f table = sets table 0 (f a)
+tableAfter (stop r) f table = table
+
+unfoldable pub callsAfter : Stage Checked → List ℕ → List ℕ
+callsAfter s table = tableAfter s (λ k. callTable (k .headers) (k .document)) table
+
+unfoldable pub wiresAfter : Stage Checked → List ℕ → List ℕ
+wiresAfter s table = tableAfter s (λ k. wireTable (k .document)) table
+
+-- a work area: after code 1 or 2 as it was, after any other answer zero over its full length
+unfoldable pub workAfter : Answer → List ℕ → List ℕ
+workAfter r work = cond (eqb (r .code) 1 || eqb (r .code) 2) work (replicate (length work) 0)

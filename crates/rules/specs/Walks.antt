@@ -1,0 +1,81 @@
+-- Walks over names, as the contracts of the code's loops cite them: a rule says which faults a name gives after those before it, and a
+-- scan gathers them. Then the rules of 12, 13 and 21 to 24 as rules of single names, and a body call by call.
+use Prim.Native.Nat.{ℕ}
+use mathlib.Core.List.{List, [], _∷_, _++_, flatten}
+use mathlib.Core.Bool.{Bool, true, false, cond, not}
+use lib.Dec.{eqb}
+use lib.ListN.{length}
+use Rattle.lexis.specs.Sizes.{maxCalls, maxAssigned, maxUses}
+use Rattle.lexis.specs.Lexer.{Token}
+use Rattle.syntax.specs.Tree.{Call, Document}
+use Rattle.rules.specs.Fault.{Fault, fault}
+use Rattle.rules.specs.Names.{isAmong, firstToken, assigned, used, allAssigned, allUsed}
+use Rattle.rules.specs.Wiring.{isExternal, again, unwired, misfed, unmade}
+use Rattle.rules.specs.DocumentRules.{badVersion, documentCounts, graphRepeats}
+
+-- ---- rules of single names
+
+-- a fault where the test holds
+abbrev pub when : Bool → Fault → List Fault
+when true x = x ∷ []
+when false x = []
+
+-- the faults of a name after those names
+abbrev pub Rule : Type 0
+Rule = List Token → Token → List Fault
+
+unfoldable pub scan : Rule → List Token → List Token → List Fault
+scan f ss [] = []
+scan f ss (t ∷ ts) = f ss t ++ scan f (ss ++ (t ∷ [])) ts
+
+-- a name that passes a test
+abbrev pub passing : ℕ → (Token → Bool) → Rule
+passing code f ss t = when (f t) (fault code (t .start))
+
+-- a name that stands before too
+abbrev pub repeating : ℕ → Rule
+repeating code ss t = when (isAmong ss t) (fault code (t .start))
+
+-- 12: the name beyond a size
+abbrev pub beyond : ℕ → Rule
+beyond size ss t = when (eqb (length ss) size) (fault 12 (t .start))
+
+abbrev pub both : Rule → Rule → Rule
+both f g ss t = f ss t ++ g ss t
+
+-- ---- the rules of inputs, outputs, left sides and arguments
+
+-- an input or output: 12 beyond the size, and this code if it is never assigned
+abbrev pub listing : ℕ → ℕ → List Token → Rule
+listing size code known = both (beyond size) (passing code (λ t. not (isAmong known t)))
+
+-- 23: an input assigned by another operation than `external`, or another identifier assigned by it
+abbrev pub misfeeds : Bool → Bool → Bool
+misfeeds external input = cond external (not input) input
+
+-- an identifier assigned: 12, 21 and 23
+abbrev pub assigning : List Token → Bool → Rule
+assigning inputs external = both (beyond maxAssigned) (both (repeating 21) (passing 23 (λ t. misfeeds external (isAmong inputs t))))
+
+-- an identifier used: 12 and 22
+abbrev pub consuming : List Token → Rule
+consuming known = both (beyond maxUses) (passing 22 (λ t. not (isAmong known t)))
+
+-- ---- bodies
+
+-- the faults of a call after the calls ds: 12 if it is one too many, those of its left side, those of its arguments
+unfoldable pub callFaults : List Token → List Call → Call → List Fault
+callFaults inputs ds c =
+    when (eqb (length ds) maxCalls) (fault 12 (firstToken (c .left) .start))
+    ++ (scan (assigning inputs (isExternal c)) (allAssigned ds) (assigned c) ++ scan (consuming (allAssigned ds)) (allUsed ds) (used c))
+
+-- those of calls after the calls ds
+unfoldable pub bodyFaults : List Token → List Call → List Call → List Fault
+bodyFaults inputs ds [] = []
+bodyFaults inputs ds (c ∷ cs) = callFaults inputs ds c ++ bodyFaults inputs (ds ++ (c ∷ [])) cs
+
+-- ---- documents
+
+-- the faults of a document that need no operation list: 11 to 13 and 21 to 24
+unfoldable pub ownFaults : Document → List Fault
+ownFaults d = flatten (badVersion d ∷ documentCounts d ∷ graphRepeats d ∷ again d ∷ unwired d ∷ misfed d ∷ unmade d ∷ [])
