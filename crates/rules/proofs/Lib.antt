@@ -1,3 +1,6 @@
+pub mod Theorems
+pub mod Cases
+pub mod Acceptance
 pub mod First
 -- Fitting: numbers at extent, trees, the tokens of types.
 pub mod Extents

@@ -9,6 +9,7 @@ pub mod Wiring
 pub mod DocumentRules
 pub mod Tables
 pub mod Answer
+pub mod Accepted
 -- What only the contracts of the code cite: fitting; operation lists; arguments; names, calls and documents.
 pub mod Fitting
 pub mod Lists

@@ -1,0 +1,28 @@
+-- When an operation list, and a document under a list, is accepted: said with the grammar and the rules alone, and no parser.
+use mathlib.Core.Path.{_≡_}
+use mathlib.Core.List.{List, []}
+use Prim.Native.Nat.{ℕ, _≤_}
+use lib.ListN.{length}
+use Rattle.lexis.specs.Sizes.{maxText, maxBrackets}
+use Rattle.lexis.specs.Lexer.{Token, accepted, lex}
+use Rattle.syntax.specs.Tree.{Header, Document}
+use Rattle.syntax.specs.Grammar.{IsList, IsDocument}
+use Rattle.rules.specs.Fault.{Fault}
+use Rattle.rules.specs.ListRules.{listFaults}
+use Rattle.rules.specs.DocumentRules.{documentFaults}
+
+-- a text of at most 16,384 bytes whose tokens spell a tree, with at most eight brackets open at once, that breaks no rule
+pub record Accepted {A : Type 0} (Spells : ℕ → List Token → A → Type 0) (faultsOf : A → List Fault) (text : List ℕ) (tree : A) : Type 0 where
+  pub short : length text ≤ maxText
+  pub tokens : List Token
+  pub lexed : lex text ≡ accepted tokens
+  pub spelt : Spells maxBrackets tokens tree
+  pub lawful : faultsOf tree ≡ []
+
+-- an operation list of these headers
+abbrev pub AcceptedList : List ℕ → List Header → Type 0
+AcceptedList list hs = Accepted IsList listFaults list hs
+
+-- a document under these headers
+abbrev pub AcceptedDocument : List Header → List ℕ → Document → Type 0
+AcceptedDocument hs doc d = Accepted IsDocument (documentFaults hs) doc d
