@@ -4,94 +4,125 @@
 mod library;
 
 mod inputs;
+mod timing;
 
-use std::hint::black_box;
-use std::time::{Duration, Instant};
+use inputs::Pair;
+use timing::Sides;
 
 const TABLE_WORDS: usize = 12_288;
+const WORK_WORDS: usize = 16_384;
+const CALL_WORDS: usize = 1_536;
+const WIRE_WORDS: usize = 2_048;
 
-/// Rounds that the medians are taken over.
-const ROUNDS: usize = 2_001;
+/// Rounds that the medians are taken over, of `tokens` and of `check`.
+const TOKENS_ROUNDS: usize = 2_001;
+const CHECK_ROUNDS: usize = 501;
 
-/// How long one side runs in a round, at least. Short turns put both sides
-/// under the same weather.
-const TURN: Duration = Duration::from_micros(250);
+/// The heads of the columns that both tables end with.
+const TIMES: &str = "  library ns   reference ns  ratio";
 
-type Operation = fn(&[u8], &mut [u32]) -> [u32; 4];
+const TOKENS: Sides<[u8], [u32]> = Sides {
+    library: |text, table| library::tokens(text, table).numbers(),
+    reference: |text, table| nnef_reference::tokens(text, table).numbers(),
+};
 
-fn library_tokens(text: &[u8], table: &mut [u32]) -> [u32; 4] {
-    library::tokens(text, table).numbers()
+const DECLARATIONS: Sides<[u8], [u32]> = Sides {
+    library: |list, work| library::declarations(list, work).numbers(),
+    reference: |list, work| nnef_reference::declarations(list, work).numbers(),
+};
+
+const CHECK: Sides<Pair, Lent> = Sides {
+    library: library_check,
+    reference: reference_check,
+};
+
+/// What `check` is lent.
+#[derive(PartialEq)]
+struct Lent {
+    list_work: Vec<u32>,
+    document_work: Vec<u32>,
+    calls: Vec<u32>,
+    wires: Vec<u32>,
 }
 
-fn reference_tokens(text: &[u8], table: &mut [u32]) -> [u32; 4] {
-    nnef_reference::tokens(text, table).numbers()
+impl Lent {
+    fn new() -> Lent {
+        Lent {
+            list_work: vec![7; WORK_WORDS],
+            document_work: vec![7; WORK_WORDS],
+            calls: vec![7; CALL_WORDS],
+            wires: vec![7; WIRE_WORDS],
+        }
+    }
+}
+
+fn library_check(pair: &Pair, lent: &mut Lent) -> [u32; 4] {
+    library::check(
+        &pair.list,
+        &pair.document,
+        &mut lent.list_work,
+        &mut lent.document_work,
+        &mut lent.calls,
+        &mut lent.wires,
+    )
+    .numbers()
+}
+
+fn reference_check(pair: &Pair, lent: &mut Lent) -> [u32; 4] {
+    nnef_reference::check(
+        &pair.list,
+        &pair.document,
+        &mut lent.list_work,
+        &mut lent.document_work,
+        &mut lent.calls,
+        &mut lent.wires,
+    )
+    .numbers()
 }
 
 fn main() {
-    println!(
-        "{:<18} {:>6} {:>7} {:>12} {:>14} {:>6}",
-        "tokens of", "bytes", "count", "library ns", "reference ns", "ratio"
-    );
+    time_tokens();
+    println!();
+    time_check();
+}
+
+fn time_tokens() {
+    println!("{:<18} {:>6} {:>7} {TIMES}", "tokens of", "bytes", "count");
     let mut worst: f64 = 0.0;
-    for (name, text) in inputs::all() {
-        let count = checked(name, &text);
-        let (library, reference) = measured(&text);
-        let ratio = library / reference;
-        worst = worst.max(ratio);
-        println!(
-            "{name:<18} {:>6} {count:>7} {library:>12.0} {reference:>14.0} {ratio:>6.2}",
-            text.len(),
-        );
+    for (name, text) in inputs::texts() {
+        let count = counted(&TOKENS, name, &text, TABLE_WORDS);
+        let mut table = vec![0; TABLE_WORDS];
+        let times = TOKENS.measured(TOKENS_ROUNDS, &text, &mut table);
+        print!("{name:<18} {:>6} {count:>7} ", text.len());
+        worst = worst.max(print_times(times));
     }
     println!("worst ratio {worst:.2}");
 }
 
-/// The count that both sides answer; they must agree in it and in the table.
-fn checked(name: &str, text: &[u8]) -> u32 {
-    let mut tables = [vec![7; TABLE_WORDS], vec![7; TABLE_WORDS]];
-    let library = library_tokens(text, &mut tables[0]);
-    let reference = reference_tokens(text, &mut tables[1]);
-    assert_eq!(library, reference, "{name}: the answers differ");
-    assert_eq!(library[0], 0, "{name}: the text is refused");
-    assert!(tables[0] == tables[1], "{name}: the tables differ");
-    library[3]
-}
-
-/// The median times of a call in nanoseconds: the library's and the reference's.
-fn measured(text: &[u8]) -> (f64, f64) {
-    let mut table = vec![0; TABLE_WORDS];
-    let calls = calls_in_turn(text, &mut table);
-    let mut library = Vec::with_capacity(ROUNDS);
-    let mut reference = Vec::with_capacity(ROUNDS);
-    for _ in 0..ROUNDS {
-        library.push(time_of(library_tokens, text, &mut table, calls));
-        reference.push(time_of(reference_tokens, text, &mut table, calls));
+fn time_check() {
+    print!("{:<18} {:>6} {:>10} ", "check of", "list", "operations");
+    println!("{:>8} {:>5} {TIMES}", "document", "calls");
+    let mut worst: f64 = 0.0;
+    for (name, pair) in inputs::pairs() {
+        let operations = counted(&DECLARATIONS, name, &pair.list, WORK_WORDS);
+        let mut lent = Lent::new();
+        let calls = CHECK.agreed(name, &pair, &mut lent, &mut Lent::new());
+        let times = CHECK.measured(CHECK_ROUNDS, &pair, &mut lent);
+        print!("{name:<18} {:>6} {operations:>10} ", pair.list.len());
+        print!("{:>8} {calls:>5} ", pair.document.len());
+        worst = worst.max(print_times(times));
     }
-    (median(library), median(reference))
+    println!("worst ratio {worst:.2}");
 }
 
-/// How many calls of the reference fill a turn.
-fn calls_in_turn(text: &[u8], table: &mut [u32]) -> u32 {
-    let mut calls = 1;
-    loop {
-        let took = time_of(reference_tokens, text, table, calls) * f64::from(calls);
-        if took >= TURN.as_nanos() as f64 {
-            return calls;
-        }
-        calls *= 2;
-    }
+/// Ends a row with its times, and gives their ratio.
+fn print_times((library, reference): (f64, f64)) -> f64 {
+    let ratio = library / reference;
+    println!("{library:>12.0} {reference:>14.0} {ratio:>6.2}");
+    ratio
 }
 
-/// The time of a call in nanoseconds, over so many calls.
-fn time_of(operation: Operation, text: &[u8], table: &mut [u32], calls: u32) -> f64 {
-    let start = Instant::now();
-    for _ in 0..calls {
-        black_box(operation(black_box(text), black_box(&mut *table)));
-    }
-    start.elapsed().as_nanos() as f64 / f64::from(calls)
-}
-
-fn median(mut times: Vec<f64>) -> f64 {
-    times.sort_by(f64::total_cmp);
-    times[times.len() / 2]
+/// The count that both sides answer for one text, with so many words lent.
+fn counted(sides: &Sides<[u8], [u32]>, name: &str, text: &[u8], words: usize) -> u32 {
+    sides.agreed(name, text, &mut vec![7; words], &mut vec![7; words])
 }

@@ -28,13 +28,16 @@ extern "C" {
 #define NNEF_NAME_BYTES 64     /* the longest name */
 #define NNEF_STRING_BYTES 128  /* the longest string, quotes not counted */
 #define NNEF_NUMBER_BYTES 64   /* the longest number */
+#define NNEF_WORK_WORDS 16384  /* words that a work area has at least */
+#define NNEF_CALL_WORDS 1536   /* words that a call table has at least */
+#define NNEF_WIRE_WORDS 2048   /* words that a wire table has at least */
 
 /* What an operation answers with. */
 typedef struct nnef_answer {
     uint32_t code;     /* one of enum nnef_code; 0 when the text is accepted */
-    uint32_t text;     /* the text with the fault: 1 the only one, 0 none */
+    uint32_t text;     /* the text with the fault: 1 the list or the only one, 2 the document, 0 none */
     uint32_t position; /* the fault's place in that text, in bytes from 0 */
-    uint32_t detail;   /* after acceptance a count, else 0 */
+    uint32_t detail;   /* after acceptance a count; with code 19 a parameter's index; else 0 */
 } nnef_answer;
 
 /*
@@ -51,7 +54,23 @@ enum nnef_code {
     NNEF_BAD_STRING = 5,      /* the string at position is not closed, or holds a byte outside 32 to 126 */
     NNEF_TOKEN_TOO_LONG = 6,  /* the name, string or number at position is too long */
     NNEF_OUT_OF_RANGE = 7,    /* the number at position is out of range (see below) */
-    NNEF_TOO_MANY_TOKENS = 8  /* the token at position is the 4097th */
+    NNEF_TOO_MANY_TOKENS = 8, /* the token at position is the 4097th */
+    NNEF_SYNTAX = 9,          /* no valid text has the token at position there, or ends there */
+    NNEF_TOO_DEEP = 10,       /* the bracket at position is the ninth that is open */
+    NNEF_VERSION = 11,        /* the version is not spelt 1.0 */
+    NNEF_TOO_MANY = 12,       /* more operations, parameters, results, inputs, outputs, calls or identifiers than there may be */
+    NNEF_REPEATED = 13,       /* a name is repeated in a list or a header */
+    NNEF_BAD_DEFAULT = 14,    /* a default does not fit its parameter's type */
+    NNEF_UNDECLARED = 15,     /* the operation is not declared */
+    NNEF_MISPLACED = 16,      /* a positional argument may not stand there */
+    NNEF_MISNAMED = 17,       /* a named argument is unknown, or its parameter is already bound */
+    NNEF_MISFIT = 18,         /* an argument does not fit its parameter's type */
+    NNEF_MISSING = 19,        /* a parameter without default is not bound; detail is its index */
+    NNEF_UNMATCHED = 20,      /* a left side does not match the operation's results */
+    NNEF_AGAIN = 21,          /* an identifier is assigned again */
+    NNEF_UNASSIGNED = 22,     /* an identifier is used that no earlier call assigns */
+    NNEF_MISFED = 23,         /* an input is not assigned by `external`, or another identifier is */
+    NNEF_UNMADE = 24          /* an output is never assigned */
 };
 
 /*
@@ -88,6 +107,35 @@ enum nnef_kind {
  */
 nnef_answer nnef_tokens(const uint8_t *text, size_t text_len,
                         uint32_t *table, size_t table_len);
+
+/*
+ * Checks an operation list. `work` is a work area of at least NNEF_WORK_WORDS
+ * words. When the list is accepted, detail is the number of its operations.
+ * After any answer but NNEF_TABLE_TOO_SHORT and NNEF_TEXT_TOO_LONG the work
+ * area is zero.
+ */
+nnef_answer nnef_declarations(const uint8_t *list, size_t list_len,
+                              uint32_t *work, size_t work_len);
+
+/*
+ * Checks a document against an operation list. The two work areas have at
+ * least NNEF_WORK_WORDS words each, `calls` NNEF_CALL_WORDS, `wires`
+ * NNEF_WIRE_WORDS; none may overlap.
+ *
+ * When the document is accepted, detail is the number of its calls; call i is
+ * in calls[4*i] (its operation's index in the list), calls[4*i + 1] (the place
+ * of the operation's name in the document), calls[4*i + 2] (the identifiers it
+ * assigns) and calls[4*i + 3] (those it uses); use j, in the order of the
+ * document, is in wires[2*j] (its place) and wires[2*j + 1] (the call that
+ * assigns it, always an earlier one). The words behind these keep what they
+ * held. When anything is refused, both tables keep what they held.
+ */
+nnef_answer nnef_check(const uint8_t *list, size_t list_len,
+                       const uint8_t *document, size_t document_len,
+                       uint32_t *list_work, size_t list_work_len,
+                       uint32_t *document_work, size_t document_work_len,
+                       uint32_t *calls, size_t calls_len,
+                       uint32_t *wires, size_t wires_len);
 
 #ifdef __cplusplus
 }

@@ -23,11 +23,27 @@ struct Side {
 }
 
 /// All sides are held against the laws, and those behind the first against it.
-const SIDES: &[Side] = &[Side {
-    name: "reference",
-    declarations: reference_declarations,
-    check: reference_check,
-}];
+const SIDES: &[Side] = &[
+    Side {
+        name: "reference",
+        declarations: reference_declarations,
+        check: reference_check,
+    },
+    Side {
+        name: "library",
+        declarations: library_declarations,
+        check: library_check,
+    },
+];
+
+fn library_declarations(list: &[u8], work: &mut [u32]) -> [u32; 4] {
+    crate::library::declarations(list, work).numbers()
+}
+
+fn library_check(list: &[u8], document: &[u8], lent: [&mut [u32]; 4]) -> [u32; 4] {
+    let [list_work, document_work, calls, wires] = lent;
+    crate::library::check(list, document, list_work, document_work, calls, wires).numbers()
+}
 
 fn reference_declarations(list: &[u8], work: &mut [u32]) -> [u32; 4] {
     nnef_reference::declarations(list, work).numbers()

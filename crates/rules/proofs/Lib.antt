@@ -1,7 +1,10 @@
+-- The theorems and the worked cases, the pages to read first.
 pub mod Theorems
 pub mod Cases
-pub mod Acceptance
+-- The order of faults; texts that pass; wires.
 pub mod First
+pub mod Acceptance
+pub mod Wired
 -- Fitting: numbers at extent, trees, the tokens of types.
 pub mod Extents
 pub mod Fits
@@ -48,5 +51,12 @@ pub mod NameTallies
 pub mod Walking
 pub mod BodyWalks
 pub mod Documents
-pub mod Codes
+-- Documents under a list.
+pub mod DocumentFaults
+pub mod Declared
+pub mod CallUsage
+pub mod Storing
 pub mod OwnFaults
+pub mod Codes
+pub mod DocumentCodes
+pub mod Checks

@@ -38,7 +38,7 @@ use Rattle.rules.specs.declared.list.Listed.the-variants.{Passed, Stoppe
 -- ---- the table in front of a work area
 
 -- tokens in the first m words are those of the whole
-tokens-in : (text work : List ℕ) (m i k : ℕ) → (i + k) * tokenWords ≤ m → tokensFrom text (take m work) i k ≡ tokensFrom text work i k
+pub tokens-in : (text work : List ℕ) (m i k : ℕ) → (i + k) * tokenWords ≤ m → tokensFrom text (take m work) i k ≡ tokensFrom text work i k
 unfolding tokensFrom tokenAt
 tokens-in text work m i zero h = refl
 tokens-in text work m i (suc k) h =
@@ -56,7 +56,7 @@ tokens-in text work m i (suc k) h =
     same : tokenAt text (take m work) i ≡ tokenAt text work i
     same = λ j. record { kind = a j; start = b j; bytes = take (c j - b j) (drop (b j) text) }
 
-holds-in : (text work : List ℕ) (m n : ℕ) → n * tokenWords ≤ m → m ≤ length work → Holds text work n → Holds text (take m work) n
+pub holds-in : (text work : List ℕ) (m n : ℕ) → n * tokenWords ≤ m → m ≤ length work → Holds text work n → Holds text (take m work) n
 holds-in text work m n h l k = record {
   room = let e = length-take-le m work l in omega arith;
   within = λ i j.

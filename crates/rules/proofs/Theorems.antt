@@ -1,7 +1,7 @@
 -- What holds of operation lists and documents, for every text and every lent length. Assumes nothing.
 use mathlib.Core.Path.{_≡_, refl, sym, ap, _∙_}
-use mathlib.Core.Bool.{Bool, true, false}
-use mathlib.Core.List.{List, [], _∷_}
+use mathlib.Core.Bool.{Bool, true, false, _&&_}
+use mathlib.Core.List.{List, [], _∷_, _++_}
 use mathlib.Core.Option.{Option, some}
 use mathlib.Core.Option.{none as nothing}
 use Prim.Native.Nat.{ℕ, _≤_, _<_}
@@ -9,16 +9,22 @@ use native.Mathlib.Omega.{arith}
 use lib.Dec.{leb}
 use lib.ListN.{length}
 use borrow.Author.Tests.{le-leb, leb-true}
-use Rattle.lexis.specs.Sizes.{maxText, workWords}
+use Rattle.lexis.specs.Sizes.{maxText, workWords, callWords, wireWords}
 use Rattle.lexis.specs.Answer.{answer}
 use Rattle.lexis.specs.declared.Answer.{Answer}
-use Rattle.syntax.specs.Tree.{Header, Document}
+use Rattle.lexis.specs.Lexer.{Token}
+use Rattle.syntax.specs.Tree.{Header, Call, Document}
 use Rattle.rules.specs.Fault.{Fault, first}
-use Rattle.rules.specs.Answer.{Stage, pass, stop, guard, counted, listStages, declared, declarationsAnswer}
+use Rattle.rules.specs.Names.{used}
+use Rattle.rules.specs.Tables.{assigner}
+use Rattle.rules.specs.Wired.{AssignedBy}
+use Rattle.rules.specs.Answer.{Stage, pass, stop, Checked, andThen, guard, counted, listStages, documentStages, declared, declarationsAnswer, checked, checkAnswer}
 use Rattle.rules.specs.Accepted.{AcceptedList, AcceptedDocument}
 use Rattle.rules.proofs.First.{IsFirst, first-is, first-none}
 use Rattle.rules.proofs.Codes.{stage-codes}
-use Rattle.rules.proofs.Acceptance.{list-passed, list-passes}
+use Rattle.rules.proofs.DocumentCodes.{document-codes}
+use Rattle.rules.proofs.Wired.{wired, all-wired}
+use Rattle.rules.proofs.Acceptance.{list-passed, list-passes, document-passed, document-passes}
 
 -- ---- the answer of a stage
 
@@ -29,6 +35,13 @@ first-fault = first-is
 -- where there is none, there is no fault
 pub no-fault : (xs : List Fault) → first xs ≡ nothing → xs ≡ []
 no-fault = first-none
+
+-- ---- wires
+
+-- In an accepted document the call that a wire names comes before the call that uses the identifier, and assigns it.
+pub wire-below : (hs : List Header) (doc : List ℕ) (d : Document) → AcceptedDocument hs doc d → (before : List Call) (c : Call) (after : List Call) (xs : List Token) (t : Token) (ys : List Token)
+    → d .calls ≡ before ++ (c ∷ after) → used c ≡ xs ++ (t ∷ ys) → AssignedBy (d .calls) (assigner (d .calls) t) (length before) t
+wire-below hs doc d a before c after xs t ys e u = rw e (wired before c after xs t ys (rw e at (all-wired hs d (a .lawful))) u)
 
 -- ---- declarations
 
@@ -50,3 +63,34 @@ declarations-accepted list work e = go (leb workWords work) (leb (length list) m
     go false b q e = absurd (omega arith)
     go true false q e = absurd (omega arith)
     go true true q e = by (leb-true (length list) maxText q) (listStages list) refl e
+
+-- ---- check
+
+-- an accepted document under an accepted list, lent the room asked, is answered 0, 0, 0 and the number of its calls
+pub check-accepts : (list doc : List ℕ) (work₁ work₂ calls wires : ℕ) (hs : List Header) (d : Document) → workWords ≤ work₁ → workWords ≤ work₂ → callWords ≤ calls → wireWords ≤ wires
+    → AcceptedList list hs → AcceptedDocument hs doc d → checkAnswer list doc work₁ work₂ calls wires ≡ answer 0 0 0 (length (d .calls))
+unfolding checkAnswer checked
+check-accepts list doc work₁ work₂ calls wires hs d r₁ r₂ r₃ r₄ a b =
+    rw (le-leb workWords work₁ r₁, le-leb workWords work₂ r₂, le-leb callWords calls r₃, le-leb wireWords wires r₄, le-leb (length list) maxText (a .short), le-leb (length doc) maxText (b .short), list-passes list hs a, document-passes hs doc d b)
+
+-- and code 0 is answered to no other
+pub check-accepted : (list doc : List ℕ) (work₁ work₂ calls wires : ℕ) → checkAnswer list doc work₁ work₂ calls wires .code ≡ 0
+    → (hs : List Header) × ((d : Document) × (AcceptedList list hs × AcceptedDocument hs doc d))
+unfolding checkAnswer checked
+check-accepted list doc work₁ work₂ calls wires e =
+    go (leb workWords work₁ && (leb workWords work₂ && (leb callWords calls && leb wireWords wires))) (leb (length list) maxText) (leb (length doc) maxText) refl refl e
+  where
+    second : (hs : List Header) → AcceptedList list hs → length doc ≤ maxText → (s : Stage Document) → documentStages hs doc ≡ s → counted (andThen {B = Checked} s (λ d. pass (record { headers = hs; document = d }))) (λ k. length (k .document .calls)) .code ≡ 0 → (hs : List Header) × ((d : Document) × (AcceptedList list hs × AcceptedDocument hs doc d))
+    second hs a l (pass d) q e = (hs, (d, (a, document-passed hs doc d l q)))
+    second hs a l (stop r) q e = absurd (omega (arith, document-codes hs doc r q))
+
+    first-text : length list ≤ maxText → length doc ≤ maxText → (s : Stage (List Header)) → listStages list ≡ s → counted (andThen {B = Checked} s (λ hs. andThen (documentStages hs doc) (λ d. pass (record { headers = hs; document = d })))) (λ k. length (k .document .calls)) .code ≡ 0 → (hs : List Header) × ((d : Document) × (AcceptedList list hs × AcceptedDocument hs doc d))
+    first-text m l (pass hs) q e = second hs (list-passed list hs m q) l (documentStages hs doc) refl e
+    first-text m l (stop r) q e = absurd (omega (arith, stage-codes list r q))
+
+    go : (a b c : Bool) → leb (length list) maxText ≡ b → leb (length doc) maxText ≡ c
+        → counted (guard a (answer 1 0 0 0) (guard b (answer 2 1 maxText 0) (guard c (answer 2 2 maxText 0) (andThen {B = Checked} (listStages list) (λ hs. andThen (documentStages hs doc) (λ d. pass (record { headers = hs; document = d }))))))) (λ k. length (k .document .calls)) .code ≡ 0 → (hs : List Header) × ((d : Document) × (AcceptedList list hs × AcceptedDocument hs doc d))
+    go false b c p q e = absurd (omega arith)
+    go true false c p q e = absurd (omega arith)
+    go true true false p q e = absurd (omega arith)
+    go true true true p q e = first-text (leb-true (length list) maxText p) (leb-true (length doc) maxText q) (listStages list) refl e

@@ -10,6 +10,7 @@ pub mod DocumentRules
 pub mod Tables
 pub mod Answer
 pub mod Accepted
+pub mod Wired
 -- What only the contracts of the code cite: fitting; operation lists; arguments; names, calls and documents.
 pub mod Fitting
 pub mod Lists
@@ -21,3 +22,5 @@ pub mod Calls
 pub mod Walks
 pub mod Graphs
 pub mod Lookup
+pub mod Operations
+pub mod Checks

@@ -3,6 +3,7 @@ pub mod best;
 pub mod binding;
 pub mod body;
 pub mod calls;
+pub mod check;
 pub mod document;
 pub mod fitting;
 pub mod graph;
@@ -13,6 +14,9 @@ pub mod names;
 pub mod operation;
 pub mod parameter;
 pub mod scan;
+pub mod tables;
+pub mod usage;
+pub mod wires;
 pub mod wiring;
 pub mod word;
 
@@ -75,7 +79,7 @@ fn list_answer(list: &[u8], work: &mut [u32]) -> Answer
 }
 
 // Zero in every word.
-fn clear(work: &mut [u32])
+pub fn clear(work: &mut [u32])
     ensures { λ _. ⌜ now (work .exit) ≡ replicate (length (now (work .entry))) 0 ⌝ }
 {
     let mut i = 0;

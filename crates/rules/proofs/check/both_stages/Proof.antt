@@ -1,0 +1,82 @@
+-- The stages of the list, then those of the document.
+use mathlib.Core.Path.{_≡_, refl, sym, ap, _∙_}
+use mathlib.Core.List.{List}
+use Prim.Native.Nat.{ℕ}
+use native.Mathlib.Omega.{arith}
+use lib.ListN.{length, replicate}
+use Rattle.lexis.specs.Bytes.{classTable, classesFrom, classOf}
+use Rattle.rules.proofs.Stages.{passed-is, stopped-is}
+use Rattle.rules.proofs.Checks.{list-stopped}
+use borrow.Author.Needs.{needs}
+use Rattle.rules.proofs.check.both_stages.Statement.{statement}
+use Rattle.rules.proofs.check.both_stages.Tie as tie
+
+-- src/check.rt:165:11
+list-stages-requires : tie.Need-list-stages-requires
+unfolding classTable classesFrom classOf
+list-stages-requires c κs = let s = c .before .before .before .before .before .before .before .before in (refl, (s .pre .0 .0, s .pre .1 .0 .0))
+
+-- src/check.rt:166:24
+enum-known-n : tie.Need-enum-known-n
+enum-known-n c = search needs
+
+-- src/check.rt:166:33
+document-stages-requires : tie.Need-document-stages-requires
+unfolding classTable classesFrom classOf
+document-stages-requires c κs =
+    let s = c .before .before .before .before .before .before .before .before .before .before .before .before .before .before .before .before .before .before .before in
+    let e = c .before .before .before .before .before .before .before .before .before .before .list-stages .ensures in
+    (refl, (passed-is (e .0) (c .before .before .before .before .before .before .n .given .1), (s .pre .0 .1, ((omega (arith, e .1, s .pre .1 .0 .0), s .pre .1 .0 .1), s .pre .1 .1))))
+
+-- src/check.rt:167:25
+enum-known-r : tie.Need-enum-known-r
+enum-known-r c = search needs
+
+-- src/check.rt:149:1
+same-length : tie.Need-same-length
+same-length c = search needs
+
+-- src/check.rt:149:1
+same-length-2 : tie.Need-same-length-2
+same-length-2 c = search needs
+
+-- src/check.rt:149:1
+same-length-3 : tie.Need-same-length-3
+same-length-3 c = search needs
+
+-- src/check.rt:149:1
+same-length-4 : tie.Need-same-length-4
+same-length-4 c = search needs
+
+-- src/check.rt:149:1
+returns : tie.Need-returns
+returns c =
+    let e = c .before .before .before .before .before .before .document-stages .ensures in
+    (e .0, (c .before .before .before .before .before .before .before .before .before .before .before .before .before .before .before .before .before .list-stages .ensures .1, e .1))
+
+-- src/check.rt:149:1
+same-length-5 : tie.Need-same-length-5
+same-length-5 c = search needs
+
+-- src/check.rt:149:1
+returns-2 : tie.Need-returns-2
+returns-2 c =
+    let s = c .before .before .before .before .before .before .before .before .before .before .before .before .before .before in
+    let e = c .before .before .before .before .before .list-stages .ensures in
+    (list-stopped (s .args .list .now) (s .args .doc .now) (s .args .calls .now) (s .args .wires .now) (stopped-is (s .args .list .now) _ (c .before .before .before .before .before .list-stages .result) (e .0) (c .before .r .given .1)), (e .1, refl))
+
+pub both-stages-spec : {M : Type 1} → statement M
+both-stages-spec =
+    tie.close
+    (tie.spec
+    list-stages-requires
+    enum-known-n
+    document-stages-requires
+    enum-known-r
+    same-length
+    same-length-2
+    same-length-3
+    same-length-4
+    returns
+    same-length-5
+    returns-2)
