@@ -1,7 +1,7 @@
 //! Compares the library with the reference and with written answers.
 //!
-//! Arguments: the number of random texts (100000), of which a tenth is the
-//! number of random pairs of texts, and the seed (1).
+//! Arguments: the number of random texts, and of random pairs of texts
+//! (100000), and the seed (1).
 
 #[path = "../include/nnef.rs"]
 mod library;
@@ -19,7 +19,7 @@ fn main() -> ExitCode {
     let count = number(arguments.next(), 100_000);
     let seed = number(arguments.next(), 1);
     let tokens = tokens::run(count, seed);
-    let check = check::run(count / 10, seed);
+    let check = check::run(count, seed);
     if tokens && check {
         ExitCode::SUCCESS
     } else {
