@@ -2,23 +2,30 @@
 use mathlib.Core.Path.{_≡_, refl, sym, ap, _∙_}
 use mathlib.Core.Bool.{Bool, true, false, _&&_}
 use mathlib.Core.List.{List, [], _∷_, _++_}
+use mathlib.Core.Logic.{_⊎_, inl, inr}
 use mathlib.Core.Option.{Option, some}
 use mathlib.Core.Option.{none as nothing}
 use Prim.Native.Nat.{ℕ, _≤_, _<_}
 use native.Mathlib.Omega.{arith}
 use lib.Dec.{leb}
-use lib.ListN.{length}
-use borrow.Author.Tests.{le-leb, leb-true}
-use Rattle.lexis.specs.Sizes.{maxText, workWords, callWords, wireWords}
+use lib.ListN.{length, replicate}
+use borrow.Author.Tests.{le-leb, leb-true, ne-eqb}
+use Rattle.lexis.specs.Sizes.{maxText, maxBrackets, workWords, callWords, wireWords}
 use Rattle.lexis.specs.Answer.{answer}
 use Rattle.lexis.specs.declared.Answer.{Answer}
-use Rattle.lexis.specs.Lexer.{Token}
+use Rattle.lexis.specs.Lexer.{Token, accepted, refused, lex}
 use Rattle.syntax.specs.Tree.{Header, Call, Document}
+use Rattle.syntax.specs.Grammar.{IsList, IsDocument}
+use Rattle.syntax.specs.Fault.{FirstFault}
+use Rattle.syntax.specs.Table.{placeOf}
+use Rattle.syntax.proofs.Theorems.{list-parsed, document-parsed, list-fault-given, document-fault-given}
 use Rattle.rules.specs.Fault.{Fault, first}
+use Rattle.rules.specs.ListRules.{listFaults}
+use Rattle.rules.specs.DocumentRules.{documentFaults}
 use Rattle.rules.specs.Names.{used}
 use Rattle.rules.specs.Tables.{assigner}
 use Rattle.rules.specs.Wired.{AssignedBy}
-use Rattle.rules.specs.Answer.{Stage, pass, stop, Checked, andThen, guard, counted, listStages, documentStages, declared, declarationsAnswer, checked, checkAnswer}
+use Rattle.rules.specs.Answer.{Stage, pass, stop, Checked, andThen, guard, counted, listStages, documentStages, declared, declarationsAnswer, checked, checkAnswer, callsAfter, wiresAfter, workAfter}
 use Rattle.rules.specs.Accepted.{AcceptedList, AcceptedDocument}
 use Rattle.rules.proofs.First.{IsFirst, first-is, first-none}
 use Rattle.rules.proofs.Codes.{stage-codes}
@@ -64,6 +71,21 @@ declarations-accepted list work e = go (leb workWords work) (leb (length list) m
     go true false q e = absurd (omega arith)
     go true true q e = by (leb-true (length list) maxText q) (listStages list) refl e
 
+-- Otherwise the answer is the first fault: of the bytes; of the syntax, whose place the grammar gives; of the rules.
+pub declarations-bytes : (list : List ℕ) (work c p : ℕ) → workWords ≤ work → length list ≤ maxText → lex list ≡ refused c p → declarationsAnswer list work ≡ answer c 1 p 0
+unfolding declarationsAnswer declared listStages
+declarations-bytes list work c p r l e = rw (le-leb workWords work r, le-leb (length list) maxText l, e)
+
+pub declarations-syntax : (list : List ℕ) (work c : ℕ) (ts us : List Token) → workWords ≤ work → length list ≤ maxText → lex list ≡ accepted ts
+    → FirstFault (λ b ts. (hs : List Header) × IsList b ts hs) maxBrackets c ts us → declarationsAnswer list work ≡ answer c 1 (placeOf (length list) us) 0
+unfolding declarationsAnswer declared listStages
+declarations-syntax list work c ts us r l e f = rw (le-leb workWords work r, le-leb (length list) maxText l, e, list-fault-given maxBrackets c ts us f)
+
+pub declarations-rules : (list : List ℕ) (work : ℕ) (ts : List Token) (hs : List Header) (x : Fault) → workWords ≤ work → length list ≤ maxText → lex list ≡ accepted ts → IsList maxBrackets ts hs
+    → first (listFaults hs) ≡ some x → declarationsAnswer list work ≡ answer (x .code) 1 (x .at) (x .detail)
+unfolding declarationsAnswer declared listStages
+declarations-rules list work ts hs x r l e s f = rw (le-leb workWords work r, le-leb (length list) maxText l, e, list-parsed maxBrackets ts hs .1 s, f)
+
 -- ---- check
 
 -- an accepted document under an accepted list, lent the room asked, is answered 0, 0, 0 and the number of its calls
@@ -94,3 +116,41 @@ check-accepted list doc work₁ work₂ calls wires e =
     go true false c p q e = absurd (omega arith)
     go true true false p q e = absurd (omega arith)
     go true true true p q e = first-text (leb-true (length list) maxText p) (leb-true (length doc) maxText q) (listStages list) refl e
+
+-- Otherwise, after an accepted list, the answer is the document's first fault: of the bytes; of the syntax, whose place the grammar gives; of
+-- the rules. (Of a list that is not accepted `check` answers what `declarations` does, with the same stages.)
+module _ (list doc : List ℕ) (work₁ work₂ calls wires : ℕ) (hs : List Header) (r₁ : workWords ≤ work₁) (r₂ : workWords ≤ work₂) (r₃ : callWords ≤ calls) (r₄ : wireWords ≤ wires) (a : AcceptedList list hs) (l : length doc ≤ maxText) where
+  pub check-bytes : (c p : ℕ) → lex doc ≡ refused c p → checkAnswer list doc work₁ work₂ calls wires ≡ answer c 2 p 0
+  unfolding checkAnswer checked documentStages
+  check-bytes c p e =
+      rw (le-leb workWords work₁ r₁, le-leb workWords work₂ r₂, le-leb callWords calls r₃, le-leb wireWords wires r₄, le-leb (length list) maxText (a .short), le-leb (length doc) maxText l, list-passes list hs a, e)
+
+  pub check-syntax : (c : ℕ) (ts us : List Token) → lex doc ≡ accepted ts → FirstFault (λ b ts. (d : Document) × IsDocument b ts d) maxBrackets c ts us
+      → checkAnswer list doc work₁ work₂ calls wires ≡ answer c 2 (placeOf (length doc) us) 0
+  unfolding checkAnswer checked documentStages
+  check-syntax c ts us e f =
+      rw (le-leb workWords work₁ r₁, le-leb workWords work₂ r₂, le-leb callWords calls r₃, le-leb wireWords wires r₄, le-leb (length list) maxText (a .short), le-leb (length doc) maxText l, list-passes list hs a, e, document-fault-given maxBrackets c ts us f)
+
+  pub check-rules : (ts : List Token) (d : Document) (x : Fault) → lex doc ≡ accepted ts → IsDocument maxBrackets ts d → first (documentFaults hs d) ≡ some x
+      → checkAnswer list doc work₁ work₂ calls wires ≡ answer (x .code) 2 (x .at) (x .detail)
+  unfolding checkAnswer checked documentStages
+  check-rules ts d x e s f =
+      rw (le-leb workWords work₁ r₁, le-leb workWords work₂ r₂, le-leb callWords calls r₃, le-leb wireWords wires r₄, le-leb (length list) maxText (a .short), le-leb (length doc) maxText l, list-passes list hs a, e, document-parsed maxBrackets ts d .1 s, f)
+
+-- ---- lent words
+
+-- a refusal by `check` leaves both tables as they were
+pub refusal-keeps : (s : Stage Checked) (calls wires : List ℕ) → (counted s (λ k. length (k .document .calls)) .code ≡ 0 → ⊥) → (callsAfter s calls ≡ calls) × (wiresAfter s wires ≡ wires)
+unfolding callsAfter wiresAfter
+refusal-keeps (pass k) calls wires n = absurd (n refl)
+refusal-keeps (stop r) calls wires n = (refl, refl)
+
+-- after any answer but codes 1 and 2 a work area is zero over its full length, and these two leave it as it was
+pub work-zero : (r : Answer) (work : List ℕ) → (r .code ≡ 1 → ⊥) → (r .code ≡ 2 → ⊥) → workAfter r work ≡ replicate (length work) 0
+unfolding workAfter
+work-zero r work a b = rw (ne-eqb (r .code) 1 a, ne-eqb (r .code) 2 b)
+
+pub work-kept : (r : Answer) (work : List ℕ) → (r .code ≡ 1) ⊎ (r .code ≡ 2) → workAfter r work ≡ work
+unfolding workAfter
+work-kept r work (inl e) = rw e
+work-kept r work (inr e) = rw e
