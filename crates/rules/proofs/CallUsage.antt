@@ -1,17 +1,16 @@
 -- The faults of a call under a list: what the look-up of its operation makes of them, and the walk over all calls.
 -- Relies on `Declared`, `Lookups` and `DocumentFaults`.
 use mathlib.Core.Path.{_≡_, refl, sym, ap, ap₂, _∙_}
-use mathlib.Core.Bool.{Bool, true, false, cond, not}
-use mathlib.Core.List.{List, [], _∷_, _++_, flatMap, append-nil}
+use mathlib.Core.Bool.{Bool, true, false, not}
+use mathlib.Core.List.{List, [], _∷_, _++_, flatMap}
 use mathlib.Core.Option.{Option, some}
 use mathlib.Core.Option.{none as nothing}
-use Prim.Native.Nat.{ℕ, zero, suc, _+_, _-_, _<_, _≤_}
-use native.Mathlib.Omega.{arith}
+use Prim.Native.Nat.{ℕ, _+_, _-_, _<_, _≤_}
 use Rattle.lexis.specs.Sizes.{maxBrackets}
 use Rattle.lexis.specs.Lexer.{Token}
 use Rattle.syntax.specs.Tree.{Value, Header, Call}
 use Rattle.syntax.specs.Symbol.{aName, leftRound, rightRound}
-use Rattle.syntax.specs.Parser.{then, expect, plain, row, argument, left, call}
+use Rattle.syntax.specs.Parser.{expect, plain, row, argument, left, call}
 use Rattle.syntax.specs.Parser.Parse.{ok}
 use Rattle.syntax.specs.Parser.Row.{commas}
 use Rattle.syntax.specs.Table.{startAt, tokenAt, toks}
@@ -25,7 +24,7 @@ use Rattle.rules.specs.Operations.{operationFaults, boundAt, boundFaults
 use Rattle.rules.specs.declared.calls.Places.{Places}
 use Rattle.rules.proofs.First.{first-append}
 use Rattle.rules.proofs.CallParses.{then-ok}
-use Rattle.rules.proofs.Lookups.{More, calls-more, calls-none}
+use Rattle.rules.proofs.Lookups.{calls-more, calls-none}
 use Rattle.rules.proofs.Bests.{walk-start, walk-on, walk-end}
 
 -- ---- one call

@@ -1,11 +1,11 @@
 -- From the bytes of a document under a list to the answer of `check` and both tables. Relies on `Stages` for the table in front of a work
 -- area, on `syntax` for the faults of bytes and syntax.
 use mathlib.Core.Path.{_≡_, refl, sym, ap, ap₂, subst, _∙_}
-use mathlib.Core.Bool.{Bool, true, false, cond, _&&_}
-use mathlib.Core.List.{List, [], _∷_}
+use mathlib.Core.Bool.{Bool, true, false, _&&_}
+use mathlib.Core.List.{List, []}
 use mathlib.Core.Option.{Option, some}
 use mathlib.Core.Option.{none as nothing}
-use Prim.Native.Nat.{ℕ, zero, suc, _+_, _-_, _*_, _<_, _≤_}
+use Prim.Native.Nat.{ℕ, _+_, _-_, _*_, _≤_}
 use native.Mathlib.Nat.{zero-add}
 use native.Mathlib.Omega.{arith}
 use lib.Dec.{leb}
@@ -25,7 +25,7 @@ use Rattle.syntax.specs.Parser.Parse.{ok, bad}
 use Rattle.syntax.specs.Table.{toks, placeOf, parsed}
 use Rattle.syntax.specs.Read.{agreed, readAfter, readOf}
 use Rattle.syntax.specs.declared.Syntax.the-variants as S
-use Rattle.syntax.proofs.Reading.{Got, got}
+use Rattle.syntax.proofs.Reading.{got}
 use Rattle.syntax.proofs.Theorems.{document-all-read}
 use Rattle.rules.specs.Fault.{Fault, first}
 use Rattle.rules.specs.Best.{faultOf, meant}
@@ -35,11 +35,12 @@ use Rattle.rules.specs.Tables.{callTable, wireTable}
 use Rattle.rules.specs.Lists.{tableOf, Heads, Places}
 use Rattle.rules.specs.Stages.{namesOf, ListPassed}
 use Rattle.rules.specs.Operations.{Opened}
-use Rattle.rules.specs.Answer.{Stage, pass, stop, andThen, bytesStage, syntaxStage, rulesStage, listStages, documentStages, counted, guard, short, checked, checkAnswer, Checked, callsAfter, wiresAfter}
+use Rattle.rules.specs.Answer.{Stage, pass, stop, andThen, bytesStage, syntaxStage, rulesStage, listStages, documentStages, counted, guard, short, checked, checkAnswer, Checked, callsAfter, wiresAfter, workAfter}
 use Rattle.rules.specs.Checks.{bothStages, DocumentRead, Ended}
 use Rattle.rules.specs.declared.best.Best.{Best}
 use Rattle.rules.proofs.Stages.{tokens-in, holds-in}
 use Rattle.rules.proofs.Declared.{heads-open}
+use Rattle.rules.proofs.DocumentCodes.{joined}
 use Rattle.rules.proofs.Storing.{heads-count}
 
 -- ---- a list that has passed has no fault
@@ -105,9 +106,6 @@ document-stops hs text {c} {p} h e = go (lex text) (sym e ∙ h)
     go (accepted ts) k = parses ts (parseDocument ts) k
 
 -- ---- what the stages end in
-
-abbrev joined : List Header → Document → Stage Checked
-joined hs d = pass (record { headers = hs; document = d })
 
 module _ (list doc calls wires : List ℕ) where
   ended-as : {calls' wires' : List ℕ} {r : Answer} {s : Stage Checked} → bothStages list doc ≡ s → Ended s calls calls' wires wires' r → Ended (bothStages list doc) calls calls' wires wires' r
@@ -199,6 +197,11 @@ module _ (list doc : List ℕ) (work₁ work₂ calls wires : ℕ) where
       let b = both-true (leb workWords work₂) (leb callWords calls && leb wireWords wires) (a .1) in
       let c = both-true (leb callWords calls) (leb wireWords wires) (b .1) in
       (leb-true workWords work₁ (a .0), leb-true workWords work₂ (b .0), leb-true callWords calls (c .0), leb-true wireWords wires (c .1))
+
+-- after code 2 a work area is as it was
+pub long-kept : {n : ℕ} {r : Answer} (work : List ℕ) → r ≡ answer 2 n maxText 0 → work ≡ workAfter r work
+unfolding workAfter
+long-kept work e = sym (ap (λ (x : Answer). workAfter x work) e)
 
 -- ---- the directory as a part of the work area
 

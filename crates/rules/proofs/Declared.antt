@@ -1,8 +1,8 @@
 -- The header that a look-up finds: where its parameters and its results begin in the list's table. Relies on `HeaderLayout` for the
 -- tokens and on `DocumentFaults` for what a list without faults says.
-use mathlib.Core.Path.{_≡_, refl, sym, ap, ap₂, _∙_}
+use mathlib.Core.Path.{_≡_, refl, sym, ap, _∙_}
 use mathlib.Core.Bool.{Bool, true, false, cond, false≢true}
-use mathlib.Core.List.{List, [], _∷_, _++_, map, flatMap}
+use mathlib.Core.List.{List, [], _∷_, _++_, flatMap}
 use mathlib.Core.Option.{Option, some}
 use mathlib.Core.Option.{none as nothing}
 use Prim.Native.Nat.{ℕ, zero, suc, _+_, _-_, _<_, _≤_}
@@ -23,7 +23,7 @@ use Rattle.rules.specs.Fault.{first}
 use Rattle.rules.specs.Reading.{isSome}
 use Rattle.rules.specs.DocumentRules.{find}
 use Rattle.rules.specs.Tables.{indexOf}
-use Rattle.rules.specs.Lists.{onFrom, ownFaults, endsHeader, Heads, no-head, a-head, Places, lookupFrom, entries}
+use Rattle.rules.specs.Lists.{onFrom, ownFaults, Heads, no-head, a-head, Places, lookupFrom, entries}
 use Rattle.rules.specs.Found.{found}
 use Rattle.rules.specs.Operations.{Opened}
 use Rattle.rules.specs.declared.operation.Lookup.{Lookup}

@@ -1,12 +1,12 @@
 -- A refusal by the stages of a list and a document has none of the codes 1 and 2, so the work areas are cleared after it.
 -- Relies on the codes of `lexis` (3 to 8) and `syntax` (9 and 10) and on `Codes` for the list; those of a document's rules are 11 to 24.
-use mathlib.Core.Path.{_≡_, refl, sym, ap, ap₂, _∙_}
+use mathlib.Core.Path.{_≡_, refl, sym, ap, _∙_}
 use mathlib.Core.Bool.{Bool, true, false, cond, not, _||_, _&&_}
 use mathlib.Core.List.{List, [], _∷_, _++_, map, flatMap, flatten}
 use mathlib.Core.Logic.{_⊎_, inl, inr}
 use mathlib.Core.Option.{Option, some}
 use mathlib.Core.Option.{none as nothing}
-use Prim.Native.Nat.{ℕ, zero, suc, _+_, _<_, _≤_}
+use Prim.Native.Nat.{ℕ, suc, _+_, _≤_}
 use native.Mathlib.Omega.{arith}
 use lib.Dec.{eqb}
 use lib.ListN.{length, replicate, take, drop}
@@ -28,7 +28,7 @@ use Rattle.rules.specs.Names.{those, isAmong, repeats, startOf, used, as
 use Rattle.rules.specs.Reading.{fits, resultType}
 use Rattle.rules.specs.ListRules.{over, paramNames}
 use Rattle.rules.specs.Binding.{Slot, leading, labels, taken, slots, takesPlace, later, misplacedFrom, misplaced, misnamed, misfit, misfits, isMissing, missingFrom, missing}
-use Rattle.rules.specs.Wiring.{strangers, isExternal, again, unwiredAfter, unwired, misfedBy, misfed, unmade}
+use Rattle.rules.specs.Wiring.{strangers, isExternal, again, unwiredAfter, misfedBy, misfed, unmade}
 use Rattle.rules.specs.DocumentRules.{find, byOperation, badVersion, documentCounts, graphRepeats, undeclared, argumentFaults, unmatched, documentFaults}
 use Rattle.rules.specs.Answer.{Stage, pass, stop, andThen, bytesStage, syntaxStage, rulesStage, listStages, documentStages, counted, Checked, workAfter}
 use Rattle.rules.specs.Checks.{bothStages}
@@ -218,7 +218,8 @@ document-codes hs text r h = bytes (lex text) refl h
     bytes (refused c p) e k = let d : c ≡ r .code = code-of k in omega (arith, coded text c p e .0)
     bytes (accepted ts) e k = syntax ts (parseDocument ts) refl k
 
-abbrev joined : List Header → Document → Stage Checked
+-- what both stages give together
+abbrev pub joined : List Header → Document → Stage Checked
 joined hs d = pass (record { headers = hs; document = d })
 
 both-codes : (list doc : List ℕ) (r : Answer) → bothStages list doc ≡ stop r → 3 ≤ r .code

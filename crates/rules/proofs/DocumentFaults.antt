@@ -2,10 +2,10 @@
 -- says of each header. Relies on `First` and `ListFaults`.
 use mathlib.Core.Path.{_≡_, refl, sym, ap, ap₂, _∙_}
 use mathlib.Core.Bool.{Bool, true, false, cond}
-use mathlib.Core.List.{List, [], _∷_, _++_, map, flatMap, flatten, append-nil}
+use mathlib.Core.List.{List, [], _∷_, _++_, map, flatMap, flatten}
 use mathlib.Core.Option.{Option, some}
 use mathlib.Core.Option.{none as nothing}
-use Prim.Native.Nat.{ℕ, zero, suc, _+_, _<_, _≤_}
+use Prim.Native.Nat.{ℕ, _+_, _≤_}
 use native.Mathlib.Omega.{arith}
 use lib.Dec.{leb}
 use lib.ListN.{length, take, drop, length-map}
@@ -14,7 +14,7 @@ use borrow.Author.Tests.{leb-true, leb-false}
 use Rattle.lexis.specs.Sizes.{maxOperations, maxParameters, maxResults, maxInputs, maxOutputs, maxCalls, maxAssigned, maxUses}
 use Rattle.lexis.specs.Lexer.{Token}
 use Rattle.syntax.specs.Tree.{Param, Result, Header, Call, Document}
-use Rattle.rules.specs.Fault.{Fault, fault, faults, starts, earlier, first}
+use Rattle.rules.specs.Fault.{Fault, faults, starts, earlier, first}
 use Rattle.rules.specs.Names.{isAmong, repeats, repeatsAfter, startOf, allAssigned, allUsed}
 use Rattle.rules.specs.ListRules.{over, paramNames, headerNames, listFaults}
 use Rattle.rules.specs.Lists as L
@@ -88,11 +88,11 @@ none-beyond k xs h = go (leb (length xs) k) refl
         let z : _≡_ {A = ℕ} 0 1 = cc in
         absurd (omega arith)
 
-no-faults : (c : ℕ) (ps : List ℕ) → faults c ps ≡ [] → ps ≡ []
+pub no-faults : (c : ℕ) (ps : List ℕ) → faults c ps ≡ [] → ps ≡ []
 no-faults c [] h = refl
 no-faults c (p ∷ ps) h = let z : _≡_ {A = ℕ} 0 1 = cc in absurd (omega arith)
 
-no-starts : (ts : List Token) → starts ts ≡ [] → ts ≡ []
+pub no-starts : (ts : List Token) → starts ts ≡ [] → ts ≡ []
 no-starts [] h = refl
 no-starts (t ∷ ts) h = let z : _≡_ {A = ℕ} 0 1 = cc in absurd (omega arith)
 
@@ -168,3 +168,16 @@ pub few-uses : (hs : List Header) (d : Document) → first (documentFaults hs d)
 few-uses hs d h =
     let n = within-size maxUses (starts (allUsed (d .calls))) (last-counts d (counts-none hs d h) .1) in
     omega (arith, n, length-map (allUsed (d .calls)) (λ (t : Token). t .start))
+
+-- ---- a document without faults uses only what is assigned before
+
+pub unwired-none : (hs : List Header) (d : Document) → first (documentFaults hs d) ≡ nothing → unwired d ≡ []
+unfolding ownFaults flatten
+unwired-none hs d h =
+    let o = neither (first (ownFaults d)) (first (flatMap (operationFaults hs) (d .calls))) (sym (document-parts hs d) ∙ h) .0 in
+    let z = misfed d ++ (unmade d ++ []) in
+    let y = again d ++ (unwired d ++ z) in
+    let x = graphRepeats d ++ y in
+    let a = sides (badVersion d) (documentCounts d ++ x) o .1 in
+    let b = sides (graphRepeats d) y (sides (documentCounts d) x a .1) .1 in
+    first-none (unwired d) (sides (unwired d) z (sides (again d) (unwired d ++ z) b .1) .0)

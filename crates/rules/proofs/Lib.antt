@@ -24,6 +24,7 @@ pub mod Directories
 pub mod Rulings
 pub mod HeaderWalks
 pub mod Stages
+pub mod Codes
 -- Binding: masks; the slots and the faults of one argument more; readers over the two tables; the tally of a call's arguments.
 pub mod Masks
 pub mod Labels
@@ -51,12 +52,11 @@ pub mod NameTallies
 pub mod Walking
 pub mod BodyWalks
 pub mod Documents
+pub mod OwnFaults
 -- Documents under a list.
 pub mod DocumentFaults
 pub mod Declared
 pub mod CallUsage
 pub mod Storing
-pub mod OwnFaults
-pub mod Codes
 pub mod DocumentCodes
 pub mod Checks

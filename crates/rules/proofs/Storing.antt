@@ -3,9 +3,9 @@
 use mathlib.Core.Path.{_≡_, refl, sym, ap, ap₂, _∙_}
 use mathlib.Core.Bool.{Bool, true, false, cond, _||_}
 use mathlib.Core.List.{List, [], _∷_, _++_, flatMap, append-assoc}
-use mathlib.Core.Option.{Option, some}
+use mathlib.Core.Option.{some}
 use mathlib.Core.Option.{none as nothing}
-use Prim.Native.Nat.{ℕ, zero, suc, _+_, _-_, _*_, _<_, _≤_}
+use Prim.Native.Nat.{ℕ, suc, _+_, _-_, _*_, _<_, _≤_}
 use native.Mathlib.Nat.{add-zero}
 use native.Mathlib.Numerals.{add-one}
 use native.Mathlib.Omega.{arith}
@@ -29,7 +29,7 @@ use Rattle.rules.specs.Checks.{wireOf}
 use Rattle.rules.specs.declared.calls.Places.{Places}
 use Rattle.rules.specs.declared.wiring.Assigner.{Assigner}
 use Rattle.rules.specs.declared.wiring.Assigner.the-variants as A
-use Rattle.rules.proofs.Lookups.{among-append, assigner-known, assigner-none, More, calls-more}
+use Rattle.rules.proofs.Lookups.{among-append, assigner-known, assigner-none, calls-more}
 
 -- ---- words after words
 

@@ -1,7 +1,7 @@
 -- What holds of operation lists and documents, for every text and every lent length. Assumes nothing.
 use mathlib.Core.Path.{_≡_, refl, sym, ap, _∙_}
 use mathlib.Core.Bool.{Bool, true, false, _&&_}
-use mathlib.Core.List.{List, [], _∷_, _++_}
+use mathlib.Core.List.{List, [], _∷_, _++_, List·Memᴰ}
 use mathlib.Core.Logic.{_⊎_, inl, inr}
 use mathlib.Core.Option.{Option, some}
 use mathlib.Core.Option.{none as nothing}
@@ -27,28 +27,43 @@ use Rattle.rules.specs.Tables.{assigner}
 use Rattle.rules.specs.Wired.{AssignedBy}
 use Rattle.rules.specs.Answer.{Stage, pass, stop, Checked, andThen, guard, counted, listStages, documentStages, declared, declarationsAnswer, checked, checkAnswer, callsAfter, wiresAfter, workAfter}
 use Rattle.rules.specs.Accepted.{AcceptedList, AcceptedDocument}
-use Rattle.rules.proofs.First.{IsFirst, first-is, first-none}
+use Rattle.rules.proofs.First.{before-antisym, IsFirst, first-is, first-none}
 use Rattle.rules.proofs.Codes.{stage-codes}
 use Rattle.rules.proofs.DocumentCodes.{document-codes}
-use Rattle.rules.proofs.Wired.{wired, all-wired}
+use Rattle.rules.proofs.Wired.{wired}
+use Rattle.rules.proofs.DocumentFaults.{unwired-none}
 use Rattle.rules.proofs.Acceptance.{list-passed, list-passes, document-passed, document-passes}
 
 -- ---- the answer of a stage
 
--- it is a fault of the list, and none lies before it
-pub first-fault : (xs : List Fault) (x : Fault) → first xs ≡ some x → IsFirst x xs
-first-fault = first-is
+-- it is the fault of the list that none lies before, and no other
+pub first-fault : (xs : List Fault) (x : Fault) → (first xs ≡ some x → IsFirst x xs) × (IsFirst x xs → first xs ≡ some x)
+first-fault xs x = (first-is xs x, λ h. go h (first xs) refl)
+  where
+    none : {xs : List Fault} → xs ≡ [] → List·Memᴰ x xs → ⊥
+    none e m = empty (rw e at m)
+      where
+        empty : List·Memᴰ x [] → ⊥
+        empty m = elim m [ ]
+
+    go : IsFirst x xs → (o : Option Fault) → first xs ≡ o → first xs ≡ some x
+    go h nothing e = absurd (none (first-none xs e) (h .member))
+    go h (some y) e = let i = first-is xs y e in e ∙ ap (λ (z : Fault). some z) (before-antisym y x (i .lowest x (h .member)) (h .lowest y (i .member)))
 
 -- where there is none, there is no fault
 pub no-fault : (xs : List Fault) → first xs ≡ nothing → xs ≡ []
 no-fault = first-none
+
+no-first : (xs : List Fault) → xs ≡ [] → first xs ≡ nothing
+unfolding first
+no-first xs e = rw e
 
 -- ---- wires
 
 -- In an accepted document the call that a wire names comes before the call that uses the identifier, and assigns it.
 pub wire-below : (hs : List Header) (doc : List ℕ) (d : Document) → AcceptedDocument hs doc d → (before : List Call) (c : Call) (after : List Call) (xs : List Token) (t : Token) (ys : List Token)
     → d .calls ≡ before ++ (c ∷ after) → used c ≡ xs ++ (t ∷ ys) → AssignedBy (d .calls) (assigner (d .calls) t) (length before) t
-wire-below hs doc d a before c after xs t ys e u = rw e (wired before c after xs t ys (rw e at (all-wired hs d (a .lawful))) u)
+wire-below hs doc d a before c after xs t ys e u = rw e (wired before c after xs t ys (rw e at (unwired-none hs d (no-first (documentFaults hs d) (a .lawful)))) u)
 
 -- ---- declarations
 

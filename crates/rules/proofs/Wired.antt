@@ -2,33 +2,24 @@
 -- Assumes nothing.
 use mathlib.Core.Path.{_≡_, refl, sym, ap, _∙_}
 use mathlib.Core.Bool.{Bool, true, false, cond, not, _||_}
-use mathlib.Core.List.{List, [], _∷_, _++_, flatMap, flatten, append-assoc, append-nil}
+use mathlib.Core.List.{List, [], _∷_, _++_, flatMap, append-assoc, append-nil}
 use Prim.Native.Nat.{ℕ, zero, suc, _+_, _<_}
 use native.Mathlib.Omega.{arith}
 use lib.ListN.{length}
-use Rattle.lexis.specs.Words.{sameBytes}
 use Rattle.lexis.specs.Lexer.{Token}
-use Rattle.syntax.specs.Tree.{Header, Call, Document}
+use Rattle.syntax.specs.Tree.{Call}
 use Rattle.rules.specs.Fault.{Fault, faults, starts}
 use Rattle.rules.specs.Names.{those, isAmong, assigned, used, allAssigned}
-use Rattle.rules.specs.Wiring.{strangers, again, unwiredAfter, unwired}
-use Rattle.rules.specs.DocumentRules.{badVersion, documentCounts, graphRepeats, undeclared, argumentFaults, unmatched, documentFaults}
+use Rattle.rules.specs.Wiring.{strangers, unwiredAfter}
 use Rattle.rules.specs.Tables.{assigner}
 use Rattle.rules.specs.Wired.{AssignedBy}
+use Rattle.rules.proofs.Lookups.{among-append}
+use Rattle.rules.proofs.DocumentFaults.{no-faults, no-starts}
 
 clash : _≡_ {A = ℕ} 0 1 → ⊥
 clash z = omega arith
 
 -- ---- lists of names
-
-or-assoc : (a b c : Bool) → (a || b) || c ≡ (a || (b || c))
-or-assoc true b c = refl
-or-assoc false b c = refl
-
-among-append : (xs ys : List Token) (t : Token) → isAmong (xs ++ ys) t ≡ (isAmong xs t || isAmong ys t)
-unfolding isAmong
-among-append [] ys t = refl
-among-append (x ∷ xs) ys t = ap (λ (b : Bool). sameBytes (x .bytes) (t .bytes) || b) (among-append xs ys t) ∙ sym (or-assoc (sameBytes (x .bytes) (t .bytes)) (isAmong xs t) (isAmong ys t))
 
 -- where no token is a stranger, each is known
 no-stranger : (known xs : List Token) (t : Token) (ys : List Token) → strangers known (xs ++ (t ∷ ys)) ≡ [] → isAmong known t ≡ true
@@ -44,11 +35,7 @@ no-stranger known (x ∷ xs) t ys e = go (isAmong known x) e (λ q. no-stranger 
     go true e f = f e
     go false e f = absurd (clash cc)
 
-no-faults : (c : ℕ) (ts : List Token) → faults c (starts ts) ≡ [] → ts ≡ []
-no-faults c [] e = refl
-no-faults c (t ∷ ts) e = absurd (clash cc)
-
-pub none-left : (xs ys : List Fault) → xs ++ ys ≡ [] → (xs ≡ []) × (ys ≡ [])
+none-left : (xs ys : List Fault) → xs ++ ys ≡ [] → (xs ≡ []) × (ys ≡ [])
 none-left [] ys e = (refl, e)
 none-left (x ∷ xs) ys e = absurd (clash cc)
 
@@ -59,7 +46,7 @@ known-before : (known : List Token) (before : List Call) (c : Call) (after : Lis
 unfolding unwiredAfter allAssigned flatMap
 known-before known [] c after e =
     let q = none-left (faults 22 (starts (strangers known (used c)))) (unwiredAfter (known ++ assigned c) after) e in
-    rw (append-nil known) (no-faults 22 (strangers known (used c)) (q .0))
+    rw (append-nil known) (no-starts (strangers known (used c)) (no-faults 22 (starts (strangers known (used c))) (q .0)))
 known-before known (x ∷ before) c after e =
     let q = none-left (faults 22 (starts (strangers known (used x)))) (unwiredAfter (known ++ assigned x) (before ++ (c ∷ after))) e in
     rw (← append-assoc known (assigned x) (allAssigned before)) (known-before (known ++ assigned x) before c after (q .1))
@@ -88,16 +75,3 @@ found (x ∷ before) after t e = go (isAmong (assigned x) t) refl (sym (among-ap
 pub wired : (before : List Call) (c : Call) (after : List Call) (xs : List Token) (t : Token) (ys : List Token) → unwiredAfter [] (before ++ (c ∷ after)) ≡ [] → used c ≡ xs ++ (t ∷ ys)
     → AssignedBy (before ++ (c ∷ after)) (assigner (before ++ (c ∷ after)) t) (length before) t
 wired before c after xs t ys e u = found before (c ∷ after) t (no-stranger (allAssigned before) xs t ys (rw u at (known-before [] before c after e)))
-
--- a document without faults has none of code 22
-pub all-wired : (hs : List Header) (d : Document) → documentFaults hs d ≡ [] → unwiredAfter [] (d .calls) ≡ []
-unfolding documentFaults flatten
-all-wired hs d e =
-    let a = none-left (badVersion d) _ e .1 in
-    let b = none-left (documentCounts d) _ a .1 in
-    let f = none-left (graphRepeats d) _ b .1 in
-    let g = none-left (flatMap (undeclared hs) (d .calls)) _ f .1 in
-    let h = none-left (flatMap (argumentFaults hs) (d .calls)) _ g .1 in
-    let i = none-left (flatMap (unmatched hs) (d .calls)) _ h .1 in
-    let j = none-left (again d) _ i .1 in
-    none-left (unwired d) _ j .0

@@ -1,5 +1,5 @@
 -- What only the contracts of `check` cite: its stages after the guards, the document's table, and what acceptance leaves.
-use Prim.Native.Nat.{ℕ, _<_, _≤_}
+use Prim.Native.Nat.{ℕ, _≤_}
 use mathlib.Core.Path.{_≡_}
 use mathlib.Core.List.{List, [], _∷_}
 use lib.ListN.{length}

@@ -45,7 +45,7 @@ pub struct Tally {
 }
 
 // The fault of this code at the token at place `at`.
-fn fault_at(text: &[u8], table: &[u32], n: usize, at: usize, code: u32) -> Best
+pub fn fault_at(text: &[u8], table: &[u32], n: usize, at: usize, code: u32) -> Best
     requires { ⌜ Holds (now text) (now table) n ⌝ }
     requires { ⌜ 0 < code ⌝ }
     ensures { λ r. ⌜ (at < n → meant r ≡ some (fault code (tokenAt (now (text .entry)) (now (table .entry)) at .start))) ⌝ }

@@ -3,9 +3,9 @@ use crate::best::Best;
 use crate::calls::places_at;
 use crate::graph::Graph;
 use crate::names::spelt;
-use crate::names::start_at;
 use crate::wiring::assigned;
 use crate::wiring::used;
+use crate::word::start_at;
 use lexis::limits::Limits;
 ghost use mathlib.Core.Path.{_≡_};
 ghost use mathlib.Core.List.{List, []};
@@ -57,11 +57,7 @@ fn call_at(text: &[u8], table: &[u32], n: usize, graph: Graph, walk: Walk) -> Wa
     let places = places_at(text, table, n, at);
     let from = places.equal + 3;
     let external = is_external(text, table, n, places.equal + 1);
-    let beyond = Best::fault_if(
-        walk.calls == Limits::CALLS,
-        12,
-        start_at(text, table, n, at),
-    );
+    let beyond = Best::fault_if(walk.calls == Limits::CALLS, 12, start_at(table, at));
     let left = assigned(
         text,
         table,

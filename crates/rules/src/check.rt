@@ -20,6 +20,7 @@ ghost use Prim.Native.Nat.{_≤_};
 ghost use lib.Dec.{leb};
 ghost use lib.ListN.{length};
 ghost use lib.Seq.{sets};
+ghost use Rattle.lexis.specs.Answer.{answer};
 ghost use Rattle.lexis.specs.Bytes.{classTable};
 ghost use Rattle.lexis.specs.Sizes.{maxText, maxTokens, maxCalls, maxBrackets, workWords, callWords, wireWords};
 ghost use Rattle.syntax.specs.Tree.{Header, Document};
@@ -46,6 +47,18 @@ fn rooms_serve(work1: usize, work2: usize, calls: usize, wires: usize) -> bool
         return false;
     }
     Limits::wires_serve(wires)
+}
+
+// Code 2 for this text.
+fn long_text(text: u32) -> Answer
+    ensures { λ r. ⌜ r ≡ answer 2 text maxText 0 ⌝ }
+{
+    Answer {
+        code: Code::LONG_TEXT,
+        text: text,
+        position: Limits::TEXT as u32,
+        detail: 0,
+    }
 }
 
 // Stores both tables of an accepted document, and gives the number of its calls.
@@ -214,20 +227,10 @@ pub fn check(
         };
     }
     if !Limits::text_fits(list.len()) {
-        return Answer {
-            code: Code::LONG_TEXT,
-            text: 1,
-            position: Limits::TEXT as u32,
-            detail: 0,
-        };
+        return long_text(1);
     }
     if !Limits::text_fits(doc.len()) {
-        return Answer {
-            code: Code::LONG_TEXT,
-            text: 2,
-            position: Limits::TEXT as u32,
-            detail: 0,
-        };
+        return long_text(2);
     }
     let r = both_stages(list, doc, &mut *work1, &mut *work2, calls, wires);
     clear(work1);

@@ -4,8 +4,8 @@ use crate::body::body_faults;
 use crate::graph::graph_at;
 use crate::names::repeated;
 use crate::names::spelt;
-use crate::names::start_at;
 use crate::wiring::listed;
+use crate::word::start_at;
 use lexis::limits::Limits;
 ghost use mathlib.Core.Path.{_≡_};
 ghost use mathlib.Core.List.{[]};
@@ -29,7 +29,7 @@ fn bad_version(text: &[u8], table: &[u32], n: usize) -> Best
         return Best::none();
     }
     let right = spelt(text, table, n, 1, b"1.0");
-    Best::fault_if(!right, 11, start_at(text, table, n, 1))
+    Best::fault_if(!right, 11, start_at(table, 1))
 }
 
 // The first of them.

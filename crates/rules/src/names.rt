@@ -1,6 +1,7 @@
 // Names: tokens compared, and the names of a part of a table.
 use crate::best::Best;
 use crate::word::alike;
+use crate::word::start_at;
 use crate::word::word;
 use lexis::word::same;
 use syntax::symbol::Symbol;
@@ -16,15 +17,6 @@ ghost use Rattle.rules.specs.Best.{meant};
 ghost use Rattle.rules.specs.Names.{isAmong, repeats};
 ghost use Rattle.rules.specs.Scans.{isName, namesAmong};
 ghost use Rattle.rules.specs.Walks.{scan, repeating};
-
-// Where the token at place i starts.
-pub fn start_at(text: &[u8], table: &[u32], n: usize, i: usize) -> u32
-    requires { ⌜ Holds (now text) (now table) n ⌝ }
-    requires { ⌜ i < n ⌝ }
-    ensures { λ r. ⌜ r ≡ tokenAt (now (text .entry)) (now (table .entry)) i .start ⌝ }
-{
-    table[i * 3 + 1]
-}
 
 // Whether the token at place i is spelt so.
 pub fn spelt(text: &[u8], table: &[u32], n: usize, i: usize, spelling: &[u8]) -> bool
@@ -74,11 +66,7 @@ fn repeat_at(text: &[u8], table: &[u32], n: usize, from: usize, i: usize, code: 
     if symbol_at(text, table, n, i) != Symbol::NAME {
         return Best::none();
     }
-    Best::fault_if(
-        seen(text, table, n, from, i, i),
-        code,
-        start_at(text, table, n, i),
-    )
+    Best::fault_if(seen(text, table, n, from, i, i), code, start_at(table, i))
 }
 
 // The first repeated name of the places from `from` up to `to`, as a fault of this code.

@@ -2,6 +2,7 @@
 // directory is `names`, the document in another.
 use crate::best::Best;
 use crate::binding::argument_faults;
+use crate::binding::fault_at;
 use crate::calls::Places;
 use crate::calls::places_at;
 use crate::document::own_faults;
@@ -16,7 +17,7 @@ use syntax::symbol::Symbol;
 ghost use mathlib.Core.Path.{_≡_};
 ghost use mathlib.Core.List.{List, [], flatMap, _++_};
 ghost use mathlib.Core.Option.{none as nothing};
-ghost use Prim.Native.Nat.{ℕ, _+_, _-_, _<_, _≤_};
+ghost use Prim.Native.Nat.{_+_, _-_, _<_, _≤_};
 ghost use Rattle.lexis.specs.Sizes.{maxBrackets};
 ghost use Rattle.lexis.specs.Lexer.{Token};
 ghost use Rattle.syntax.specs.Tree.{Header, Call, Document};
@@ -84,11 +85,7 @@ fn operation_faults(
     }
     let found = find(ltext, ltable, ln, names, dtext, dtable, dn, name);
     let Lookup::At(k) = found else {
-        return Best {
-            at: start_at(dtable, name),
-            code: 15,
-            detail: 0,
-        };
+        return fault_at(dtext, dtable, dn, name, 15);
     };
     declared_faults(
         ltext,

@@ -2,7 +2,7 @@
 use crate::best::Best;
 use crate::calls::places_at;
 use crate::names::seen;
-use crate::names::start_at;
+use crate::word::start_at;
 use lexis::limits::Limits;
 use syntax::symbol::Symbol;
 use syntax::symbol::symbol_at;
@@ -115,7 +115,7 @@ fn listed_at(
         return tally;
     }
     let next = tally.count + 1;
-    let place = start_at(text, table, n, i);
+    let place = start_at(table, i);
     let beyond = Best::fault_if(tally.count == size, 12, place);
     let unmade = Best::fault_if(is_unknown(text, table, n, body, until, i), code, place);
     Tally {
@@ -174,7 +174,7 @@ fn assigned_at(
         return tally;
     }
     let next = tally.count + 1;
-    let place = start_at(text, table, n, i);
+    let place = start_at(table, i);
     let beyond = Best::fault_if(tally.count == Limits::ASSIGNED, 12, place);
     let again = Best::fault_if(is_again(text, table, n, body, at, i), 21, place);
     let input = seen(text, table, n, 5, inputs, i);
@@ -244,7 +244,7 @@ fn used_at(
 {
     if is_use(text, table, n, to, i) {
         let next = tally.count + 1;
-        let place = start_at(text, table, n, i);
+        let place = start_at(table, i);
         let beyond = Best::fault_if(tally.count == Limits::USES, 12, place);
         let unwired = Best::fault_if(is_unknown(text, table, n, body, at, i), 22, place);
         return Tally {

@@ -5,7 +5,7 @@ use Rattle.rules.specs.Wiring.{isExternal}
 use Rattle.rules.specs.Names.{allUsed}
 use Rattle.rules.specs.Scans.{namesAmong}
 use Rattle.rules.specs.Fault.{first, earlier, fault}
-use Rattle.syntax.specs.Table.{toks}
+use Rattle.syntax.specs.Table.{tokenAt, toks}
 use Rattle.lexis.specs.Lexer.{Token}
 use Prim.Native.Nat.{ℕ, _-_}
 use mathlib.Core.Path.{_≡_, refl, ap, _∙_}
@@ -19,7 +19,7 @@ use Rattle.rules.proofs.best.Best.earlier.Reads as earlier-reads
 use Rattle.rules.proofs.best.Best.fault_if.Reads as fault-if-reads
 use Rattle.rules.proofs.body.is_external.Reads as is-external-reads
 use Rattle.rules.proofs.calls.places_at.Reads as places-at-reads
-use Rattle.rules.proofs.names.start_at.Reads as start-at-reads
+use Rattle.rules.proofs.word.start_at.Reads as start-at-reads
 use Rattle.rules.proofs.wiring.assigned.Reads as assigned-reads
 use Rattle.rules.proofs.wiring.used.Reads as used-reads
 
@@ -73,6 +73,7 @@ earlier-requires-3 c κs = search needs
 
 -- src/body.rt:48:1
 returns : tie.Need-returns
+unfolding tokenAt
 returns c = (
   (omega (arith, c .before .before .before .before .before .before .before .before .before .before .before .places-at .ensures .0 .from, c .before .before .before .before .before .before .before .before .before .before .before .places-at .ensures .0 .on), omega (arith, c .before .before .before .before .before .before .before .before .before .before .before .places-at .ensures .0 .from, c .before .before .before .before .before .before .before .before .before .before .before .places-at .ensures .0 .on, c .before .before .before .before .before .before .before .before .before .before .before .before .before .before .before .pre .1 .1 .0), omega (arith, c .before .before .before .before .before .before .before .before .before .before .before .places-at .ensures .0 .on, c .before .before .before .before .assigned .ensures .0), omega (arith, c .before .before .before .before .before .before .before .before .before .before .before .places-at .ensures .0 .from, c .before .before .before .before .before .before .before .before .before .before .before .places-at .ensures .0 .on, c .before .before .before .before .before .before .before .before .before .before .before .places-at .ensures .0 .past, c .before .before .before .used .ensures .0, c .before .before .before .before .before .before .before .before .before .before .before .before .before .before .before .pre .1 .1 .2)),
   λ b ds y us h e k.

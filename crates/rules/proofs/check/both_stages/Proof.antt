@@ -1,9 +1,6 @@
 -- The stages of the list, then those of the document.
-use mathlib.Core.Path.{_≡_, refl, sym, ap, _∙_}
-use mathlib.Core.List.{List}
-use Prim.Native.Nat.{ℕ}
+use mathlib.Core.Path.{refl}
 use native.Mathlib.Omega.{arith}
-use lib.ListN.{length, replicate}
 use Rattle.lexis.specs.Bytes.{classTable, classesFrom, classOf}
 use Rattle.rules.proofs.Stages.{passed-is, stopped-is}
 use Rattle.rules.proofs.Checks.{list-stopped}

@@ -1,14 +1,12 @@
 -- The guards, then all stages, then the work areas are cleared.
-use mathlib.Core.Path.{_≡_, refl, sym, ap, _∙_}
-use mathlib.Core.List.{List}
+use mathlib.Core.Path.{refl, sym, ap, _∙_}
 use Prim.Native.Nat.{ℕ}
-use native.Mathlib.Omega.{arith}
 use lib.ListN.{length, replicate}
 use borrow.Author.Tests.{leb-true, not-true, not-false}
 use Rattle.lexis.specs.Sizes.{maxText}
 use Rattle.rules.specs.Answer.{Stage, Checked, callsAfter, wiresAfter, workAfter}
 use Rattle.rules.proofs.DocumentCodes.{both-cleared}
-use Rattle.rules.proofs.Checks.{stages-short, stages-long, stages-long-too, stages-good, refused-with, answered-with, calls-kept, wires-kept, room-parts}
+use Rattle.rules.proofs.Checks.{stages-short, stages-long, stages-long-too, stages-good, refused-with, answered-with, calls-kept, wires-kept, room-parts, long-kept}
 use borrow.Author.Needs.{needs}
 use Rattle.rules.proofs.check.check.Statement.{statement}
 use Rattle.rules.proofs.check.check.Tie as tie
@@ -30,32 +28,32 @@ text-fits-requires : tie.Need-text-fits-requires
 text-fits-requires c κs = search needs
 
 -- src/check.rt:199:23
-cast-t14 : tie.Need-cast-t14
-cast-t14 c = search needs
+long-text-requires : tie.Need-long-text-requires
+long-text-requires c κs = search needs
 
 -- src/check.rt:196:9
 returns-2 : tie.Need-returns-2
-unfolding workAfter
 returns-2 c =
-    let s = c .before .before .before .before .before .before .before .before .before .before in
-    let e = stages-long (s .args .list .now) (s .args .doc .now) (length (s .args .work1 .now)) (length (s .args .work2 .now)) (length (s .args .calls .now)) (length (s .args .wires .now)) (sym (c .before .before .before .rooms-serve .ensures) ∙ not-false _ (c .before .before .if1 .left)) (sym (c .before .text-fits .ensures) ∙ not-true _ (c .if2 .taken)) in
-    (refused-with (s .args .list .now) (s .args .doc .now) (length (s .args .work1 .now)) (length (s .args .work2 .now)) (length (s .args .calls .now)) (length (s .args .wires .now)) e, (calls-kept (s .args .list .now) (s .args .doc .now) (length (s .args .work1 .now)) (length (s .args .work2 .now)) (length (s .args .calls .now)) (length (s .args .wires .now)) (s .args .calls .now) e, (wires-kept (s .args .list .now) (s .args .doc .now) (length (s .args .work1 .now)) (length (s .args .work2 .now)) (length (s .args .calls .now)) (length (s .args .wires .now)) (s .args .wires .now) e, (refl, refl))))
+    let s = c .before .before .before .before .before .before .before .before .before .before .before in
+    let l = c .long-text .ensures in
+    let e = stages-long (s .args .list .now) (s .args .doc .now) (length (s .args .work1 .now)) (length (s .args .work2 .now)) (length (s .args .calls .now)) (length (s .args .wires .now)) (sym (c .before .before .before .before .rooms-serve .ensures) ∙ not-false _ (c .before .before .before .if1 .left)) (sym (c .before .before .text-fits .ensures) ∙ not-true _ (c .before .if2 .taken)) in
+    (l ∙ refused-with (s .args .list .now) (s .args .doc .now) (length (s .args .work1 .now)) (length (s .args .work2 .now)) (length (s .args .calls .now)) (length (s .args .wires .now)) e, (calls-kept (s .args .list .now) (s .args .doc .now) (length (s .args .work1 .now)) (length (s .args .work2 .now)) (length (s .args .calls .now)) (length (s .args .wires .now)) (s .args .calls .now) e, (wires-kept (s .args .list .now) (s .args .doc .now) (length (s .args .work1 .now)) (length (s .args .work2 .now)) (length (s .args .calls .now)) (length (s .args .wires .now)) (s .args .wires .now) e, (long-kept (s .args .work1 .now) l, long-kept (s .args .work2 .now) l))))
 
 -- src/check.rt:203:9
 text-fits-requires-2 : tie.Need-text-fits-requires-2
 text-fits-requires-2 c κs = search needs
 
 -- src/check.rt:207:23
-cast-t15 : tie.Need-cast-t15
-cast-t15 c = search needs
+long-text-requires-2 : tie.Need-long-text-requires-2
+long-text-requires-2 c κs = search needs
 
 -- src/check.rt:204:9
 returns-3 : tie.Need-returns-3
-unfolding workAfter
 returns-3 c =
-    let s = c .before .before .before .before .before .before .before .before .before .before .before .before in
-    let e = stages-long-too (s .args .list .now) (s .args .doc .now) (length (s .args .work1 .now)) (length (s .args .work2 .now)) (length (s .args .calls .now)) (length (s .args .wires .now)) (sym (c .before .before .before .before .before .rooms-serve .ensures) ∙ not-false _ (c .before .before .before .before .if1 .left)) (sym (c .before .before .before .text-fits .ensures) ∙ not-false _ (c .before .before .if2 .left)) (sym (c .before .text-fits2 .ensures) ∙ not-true _ (c .if3 .taken)) in
-    (refused-with (s .args .list .now) (s .args .doc .now) (length (s .args .work1 .now)) (length (s .args .work2 .now)) (length (s .args .calls .now)) (length (s .args .wires .now)) e, (calls-kept (s .args .list .now) (s .args .doc .now) (length (s .args .work1 .now)) (length (s .args .work2 .now)) (length (s .args .calls .now)) (length (s .args .wires .now)) (s .args .calls .now) e, (wires-kept (s .args .list .now) (s .args .doc .now) (length (s .args .work1 .now)) (length (s .args .work2 .now)) (length (s .args .calls .now)) (length (s .args .wires .now)) (s .args .wires .now) e, (refl, refl))))
+    let s = c .before .before .before .before .before .before .before .before .before .before .before .before .before in
+    let l = c .long-text2 .ensures in
+    let e = stages-long-too (s .args .list .now) (s .args .doc .now) (length (s .args .work1 .now)) (length (s .args .work2 .now)) (length (s .args .calls .now)) (length (s .args .wires .now)) (sym (c .before .before .before .before .before .before .rooms-serve .ensures) ∙ not-false _ (c .before .before .before .before .before .if1 .left)) (sym (c .before .before .before .before .text-fits .ensures) ∙ not-false _ (c .before .before .before .if2 .left)) (sym (c .before .before .text-fits2 .ensures) ∙ not-true _ (c .before .if3 .taken)) in
+    (l ∙ refused-with (s .args .list .now) (s .args .doc .now) (length (s .args .work1 .now)) (length (s .args .work2 .now)) (length (s .args .calls .now)) (length (s .args .wires .now)) e, (calls-kept (s .args .list .now) (s .args .doc .now) (length (s .args .work1 .now)) (length (s .args .work2 .now)) (length (s .args .calls .now)) (length (s .args .wires .now)) (s .args .calls .now) e, (wires-kept (s .args .list .now) (s .args .doc .now) (length (s .args .work1 .now)) (length (s .args .work2 .now)) (length (s .args .calls .now)) (length (s .args .wires .now)) (s .args .wires .now) e, (long-kept (s .args .work1 .now) l, long-kept (s .args .work2 .now) l))))
 
 -- src/check.rt:211:9
 both-stages-requires : tie.Need-both-stages-requires
@@ -115,10 +113,10 @@ check-spec =
     rooms-serve-requires
     returns
     text-fits-requires
-    cast-t14
+    long-text-requires
     returns-2
     text-fits-requires-2
-    cast-t15
+    long-text-requires-2
     returns-3
     both-stages-requires
     clear-requires

@@ -1,9 +1,6 @@
 -- The bytes and the syntax of the document, then its rules.
-use mathlib.Core.Path.{_≡_, refl, sym, ap, _∙_}
-use mathlib.Core.List.{List}
-use Prim.Native.Nat.{ℕ}
 use native.Mathlib.Omega.{arith}
-use lib.ListN.{length, replicate}
+use lib.ListN.{length}
 use Rattle.lexis.specs.Lexer.{lex}
 use Rattle.syntax.proofs.Reading.{room-of}
 use Rattle.rules.proofs.Stages.{written-length}

@@ -1,9 +1,5 @@
 -- A fault stops the stages; without one the tables are written.
-use mathlib.Core.Path.{_≡_, refl, sym, ap, _∙_}
-use mathlib.Core.List.{List}
-use Prim.Native.Nat.{ℕ}
 use native.Mathlib.Omega.{arith}
-use lib.ListN.{length, replicate}
 use Rattle.rules.proofs.DocumentFaults.{few-calls, few-uses}
 use Rattle.rules.proofs.Checks.{passed-clean, rules-stopped, rules-none, all-passed, part-heads, part-places, part-open, part-few}
 use borrow.Author.Needs.{needs}

@@ -1,9 +1,5 @@
 -- Both tables are those of the document's calls.
-use mathlib.Core.Path.{_≡_, refl, sym, ap, _∙_}
-use mathlib.Core.List.{List}
-use Prim.Native.Nat.{ℕ}
 use native.Mathlib.Omega.{arith}
-use lib.ListN.{length, replicate}
 use Rattle.lexis.specs.Sizes.{maxBrackets}
 use Rattle.rules.specs.Tables.{callTable, wireTable}
 use borrow.Author.Needs.{needs}

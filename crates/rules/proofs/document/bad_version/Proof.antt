@@ -16,7 +16,7 @@ use Rattle.rules.proofs.document.bad_version.Lts as lts
 use Rattle.rules.proofs.best.Best.fault_if.Reads as fault-if-reads
 use Rattle.rules.proofs.best.Best.none.Reads as none-reads
 use Rattle.rules.proofs.names.spelt.Reads as spelt-reads
-use Rattle.rules.proofs.names.start_at.Reads as start-at-reads
+use Rattle.rules.proofs.word.start_at.Reads as start-at-reads
 
 -- src/document.rt:29:9
 none-requires : tie.Need-none-requires
@@ -44,6 +44,7 @@ fault-if-requires c κs = search needs
 
 -- src/document.rt:24:1
 returns-2 : tie.Need-returns-2
+unfolding tokenAt
 returns-2 c = λ h.
     c .fault-if .ensures
     ∙ ap₂ (λ (x : Bool) (p : ℕ). first (when (not x) (fault 11 p))) (c .before .before .spelt .ensures) (c .before .start-at .ensures)

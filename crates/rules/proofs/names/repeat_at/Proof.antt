@@ -15,7 +15,7 @@ use Rattle.rules.proofs.names.repeat_at.Lts as lts
 use Rattle.rules.proofs.best.Best.fault_if.Reads as fault-if-reads
 use Rattle.rules.proofs.best.Best.none.Reads as none-reads
 use Rattle.rules.proofs.names.seen.Reads as seen-reads
-use Rattle.rules.proofs.names.start_at.Reads as start-at-reads
+use Rattle.rules.proofs.word.start_at.Reads as start-at-reads
 use Rattle.syntax.proofs.symbol.symbol_at.Reads as symbol-at-reads
 
 -- src/names.rt:102:8
@@ -45,6 +45,7 @@ fault-if-requires c κs = search needs
 
 -- src/names.rt:97:1
 returns-2 : tie.Need-returns-2
+unfolding tokenAt
 returns-2 c = c .fault-if .ensures
     ∙ ap₂ (λ b p. first (when b (fault (c .before .before .before .before .before .before .before .args .code) p))) (c .before .before .seen .ensures) (c .before .start-at .ensures)
     ∙ sym (rule-one (repeating (c .before .before .before .before .before .before .before .args .code)) (namesAmong (toks (c .before .before .before .before .before .before .before .args .text .now) (c .before .before .before .before .before .before .before .args .table .now) (c .before .before .before .before .before .before .before .args .i) (c .before .before .before .before .before .before .before .args .from))) (tokenAt (c .before .before .before .before .before .before .before .args .text .now) (c .before .before .before .before .before .before .before .args .table .now) (c .before .before .before .before .before .before .before .args .i)) (is-name (c .before .before .before .before .before .before .before .args .text .now) (c .before .before .before .before .before .before .before .args .table .now) (c .before .before .before .before .before .before .before .args .n) (c .before .before .before .before .before .before .before .args .i) (c .before .before .before .before .before .before .before .pre .1 .0) (c .before .before .before .before .symbol-at .ensures) (c .before .before .before .if1 .left)))

@@ -1,13 +1,13 @@
 -- What is counted, and what is left.
-use mathlib.Core.Path.{_≡_, refl, sym, ap, _∙_}
+use mathlib.Core.Path.{_≡_, ap}
 use mathlib.Core.List.{List, [], _∷_}
-use Prim.Native.Nat.{ℕ, _+_, _-_, _*_, _<_, _≤_}
+use Prim.Native.Nat.{_+_, _-_, _≤_}
 use native.Mathlib.Omega.{arith}
 use lib.ListN.{length, length-append}
 use Rattle.lexis.specs.Lexer.{Token}
 use Rattle.syntax.specs.Table.{tokenAt, toks}
 use Rattle.syntax.proofs.Table.{toks-length}
-use Rattle.rules.specs.Scans.{isName, namesAmong, usesAmong, usesHere}
+use Rattle.rules.specs.Scans.{isName, namesAmong}
 use Rattle.rules.proofs.Walking.{names-step, names-end}
 use Rattle.rules.proofs.Storing.{names-most}
 use borrow.Author.Needs.{needs}

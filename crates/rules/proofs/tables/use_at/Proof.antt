@@ -1,9 +1,9 @@
 -- A use is one.
-use mathlib.Core.Path.{_≡_, refl, sym, ap, _∙_}
-use mathlib.Core.List.{List, [], _∷_}
-use Prim.Native.Nat.{ℕ, _+_, _-_, _*_, _<_, _≤_}
+use mathlib.Core.Path.{sym, ap}
+use mathlib.Core.List.{List}
+use Prim.Native.Nat.{_+_, _-_}
 use native.Mathlib.Omega.{arith}
-use lib.ListN.{length, length-append}
+use lib.ListN.{length}
 use Rattle.lexis.specs.Lexer.{Token}
 use Rattle.syntax.specs.Table.{tokenAt, toks}
 use Rattle.rules.proofs.Storing.{here-yes, here-no}

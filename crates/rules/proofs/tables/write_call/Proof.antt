@@ -1,13 +1,11 @@
 -- The four words of a call.
-use mathlib.Core.Path.{_≡_, refl, sym, ap, _∙_}
-use mathlib.Core.List.{List, [], _∷_}
-use Prim.Native.Nat.{ℕ, _+_, _-_, _*_, _<_, _≤_}
+use mathlib.Core.Path.{refl, ap, _∙_}
+use mathlib.Core.List.{List}
+use Prim.Native.Nat.{_-_}
 use native.Mathlib.Omega.{arith}
 use lib.ListN.{length}
 use Rattle.lexis.specs.Sizes.{maxBrackets}
 use Rattle.lexis.specs.Lexer.{Token}
-use Rattle.syntax.specs.Tree.{Header, Call}
-use Rattle.syntax.specs.Table.{tokenAt, toks}
 use lib.ListN.{length-set}
 use Rattle.rules.specs.Tables.{indexOf}
 use Rattle.rules.proofs.CallUsage.{started}

@@ -1,5 +1,5 @@
 -- The faults that need no list and those that need it.
-use mathlib.Core.Path.{_≡_, refl, sym, ap₂, _∙_}
+use mathlib.Core.Path.{sym, ap₂, _∙_}
 use Rattle.lexis.specs.Sizes.{maxBrackets}
 use Rattle.rules.specs.Fault.{earlier}
 use Rattle.rules.proofs.DocumentFaults.{document-parts}

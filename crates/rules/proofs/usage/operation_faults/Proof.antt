@@ -1,17 +1,17 @@
 -- An undeclared operation gives 15 alone; of a declared one the header that is found is the look-up's.
-use mathlib.Core.Path.{_≡_, refl, sym, ap, _∙_}
+use mathlib.Core.Path.{sym, ap, _∙_}
 use mathlib.Core.Option.{some}
 use Prim.Native.Nat.{ℕ, _-_}
 use native.Mathlib.Omega.{arith}
 use Rattle.lexis.specs.Sizes.{maxBrackets}
 use Rattle.syntax.specs.Parser.{header}
-use Rattle.syntax.specs.Table.{tokenAt, toks}
+use Rattle.lexis.specs.Lexer.{Token}
+use Rattle.syntax.specs.Table.{toks}
 use Rattle.rules.specs.Fault.{fault}
-use Rattle.rules.specs.Best.{meant}
 use Rattle.rules.specs.Found.{found}
 use Rattle.rules.proofs.DocumentFaults.{own-clean}
 use Rattle.rules.proofs.Declared.{found-below, found-missing, head-found}
-use Rattle.rules.proofs.CallUsage.{unknown, known, started}
+use Rattle.rules.proofs.CallUsage.{unknown, known}
 use borrow.Author.Needs.{needs}
 use Rattle.rules.proofs.usage.operation_faults.Statement.{statement}
 use Rattle.rules.proofs.usage.operation_faults.Tie as tie
@@ -34,15 +34,14 @@ enum-known-found c = search needs
 enum-told : tie.Need-enum-told
 enum-told c = search needs
 
-start-at-requires : tie.Need-start-at-requires
-start-at-requires c κs = let s = c .before .before .before .before .before .before .before .before .before .before in omega (arith, s .pre .1 .0 .room, c .before .before .before .if1 .left)
+fault-at-requires : tie.Need-fault-at-requires
+fault-at-requires c κs = let s = c .before .before .before .before .before .before .before .before .before .before in (s .pre .1 .0, omega arith)
 
 returns-2 : tie.Need-returns-2
-unfolding meant
 returns-2 c =
-    let s = c .before .before .before .before .before .before .before .before .before .before .before in
     λ hs d ws H o k w.
-    ap (λ (j : ℕ). some (fault 15 j)) (c .start-at .ensures ∙ started (s .args .dtext .now) (s .args .dtable .now) (s .args .dn) (s .args .at) (s .args .places) d ws w)
+    c .fault-at .ensures (c .before .before .before .before .if1 .left)
+    ∙ ap (λ (t : Token). some (fault 15 (t .start))) (w .title)
     ∙ sym (unknown hs d (found-missing hs (d .op) (c .before .before .before .find .ensures .1 maxBrackets hs H ∙ ap (found hs) (w .title)) (c .before .enum-told .given .1)))
 
 word-requires : tie.Need-word-requires
@@ -79,7 +78,7 @@ operation-faults-spec =
     find-requires
     enum-known-found
     enum-told
-    start-at-requires
+    fault-at-requires
     returns-2
     word-requires
     declared-faults-requires

@@ -1,8 +1,8 @@
 -- The walk over the calls keeps the first fault of those passed.
-use mathlib.Core.Path.{_≡_, refl, sym, ap, _∙_}
+use mathlib.Core.Path.{_≡_, ap, _∙_}
 use mathlib.Core.List.{List}
 use mathlib.Core.Option.{none as nothing}
-use Prim.Native.Nat.{ℕ, _-_}
+use Prim.Native.Nat.{_-_}
 use native.Mathlib.Omega.{arith}
 use Rattle.lexis.specs.Sizes.{maxBrackets}
 use Rattle.syntax.specs.Tree.{Header, Call}

@@ -1,11 +1,7 @@
 -- Found, or as many as there are.
-use mathlib.Core.Path.{_≡_, refl, sym, ap, _∙_}
-use mathlib.Core.List.{List, [], _∷_}
-use Prim.Native.Nat.{ℕ, _+_, _-_, _*_, _<_, _≤_}
+use Prim.Native.Nat.{_-_}
 use native.Mathlib.Omega.{arith}
-use lib.ListN.{length, length-append}
-use Rattle.lexis.specs.Lexer.{Token}
-use Rattle.syntax.specs.Table.{tokenAt, toks}
+use Rattle.syntax.specs.Table.{tokenAt}
 use Rattle.lexis.specs.Sizes.{maxBrackets}
 use Rattle.rules.proofs.Storing.{assigner-most, index-known, index-none}
 use borrow.Author.Needs.{needs}

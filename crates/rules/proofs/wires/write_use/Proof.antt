@@ -1,13 +1,12 @@
 -- The two words of a use.
-use mathlib.Core.Path.{_≡_, refl, sym, ap, _∙_}
-use mathlib.Core.List.{List, [], _∷_}
-use Prim.Native.Nat.{ℕ, _+_, _-_, _*_, _<_, _≤_}
+use mathlib.Core.Path.{refl, ap}
+use mathlib.Core.List.{List}
+use Prim.Native.Nat.{_+_, _-_}
 use native.Mathlib.Omega.{arith}
-use lib.ListN.{length, length-append}
+use lib.ListN.{length}
 use Rattle.lexis.specs.Lexer.{Token}
 use Rattle.syntax.specs.Table.{tokenAt, toks}
 use lib.ListN.{length-set}
-use Rattle.rules.specs.Scans.{usesHere}
 use Rattle.rules.proofs.Storing.{here-yes, here-no, wire-stored, wire-none}
 use borrow.Author.Needs.{needs}
 use Rattle.rules.proofs.wires.write_use.Statement.{statement}

@@ -1,13 +1,12 @@
 -- What is stored, and which calls are left.
-use mathlib.Core.Path.{_≡_, refl, sym, ap, _∙_}
-use mathlib.Core.List.{List, [], _∷_}
-use Prim.Native.Nat.{ℕ, _+_, _-_, _*_, _<_, _≤_}
+use mathlib.Core.Path.{_≡_, refl, _∙_}
+use mathlib.Core.List.{List}
+use Prim.Native.Nat.{_-_}
 use native.Mathlib.Omega.{arith}
 use lib.ListN.{length}
 use Rattle.lexis.specs.Sizes.{maxBrackets}
-use Rattle.lexis.specs.Lexer.{Token}
-use Rattle.syntax.specs.Tree.{Header, Call}
-use Rattle.syntax.specs.Table.{tokenAt, toks}
+use Rattle.syntax.specs.Tree.{Call}
+use Rattle.syntax.specs.Table.{toks}
 use Rattle.rules.specs.Names.{allUsed}
 use Rattle.rules.specs.Calls.{Calls}
 use Rattle.rules.specs.Checks.{wireOf}

@@ -20,7 +20,7 @@ use Rattle.rules.proofs.wiring.assigned_at.Lts as lts
 use Rattle.rules.proofs.best.Best.earlier.Reads as earlier-reads
 use Rattle.rules.proofs.best.Best.fault_if.Reads as fault-if-reads
 use Rattle.rules.proofs.names.seen.Reads as seen-reads
-use Rattle.rules.proofs.names.start_at.Reads as start-at-reads
+use Rattle.rules.proofs.word.start_at.Reads as start-at-reads
 use Rattle.rules.proofs.wiring.is_again.Reads as is-again-reads
 use Rattle.rules.proofs.wiring.misfeeds.Reads as misfeeds-reads
 use Rattle.syntax.proofs.symbol.symbol_at.Reads as symbol-at-reads
@@ -79,6 +79,7 @@ earlier-requires-3 c κs = search needs
 
 -- src/wiring.rt:130:1
 returns-2 : tie.Need-returns-2
+unfolding tokenAt
 returns-2 c = (
   omega (arith, c .before .before .before .before .before .before .before .before .before .before .before .before .before .before .before .before .pre .1 .3),
   λ b cs h e.

@@ -18,7 +18,7 @@ use Rattle.rules.proofs.wiring.listed_at.Reads as reads
 use Rattle.rules.proofs.wiring.listed_at.Lts as lts
 use Rattle.rules.proofs.best.Best.earlier.Reads as earlier-reads
 use Rattle.rules.proofs.best.Best.fault_if.Reads as fault-if-reads
-use Rattle.rules.proofs.names.start_at.Reads as start-at-reads
+use Rattle.rules.proofs.word.start_at.Reads as start-at-reads
 use Rattle.rules.proofs.wiring.is_unknown.Reads as is-unknown-reads
 use Rattle.syntax.proofs.symbol.symbol_at.Reads as symbol-at-reads
 
@@ -60,6 +60,7 @@ earlier-requires-2 c κs = search needs
 
 -- src/wiring.rt:91:1
 returns-2 : tie.Need-returns-2
+unfolding tokenAt
 returns-2 c = (
   omega (arith, c .before .before .before .before .before .before .before .before .before .before .before .before .pre .1 .3),
   λ b cs ss h e.

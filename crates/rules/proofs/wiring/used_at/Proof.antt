@@ -17,7 +17,7 @@ use Rattle.rules.proofs.wiring.used_at.Reads as reads
 use Rattle.rules.proofs.wiring.used_at.Lts as lts
 use Rattle.rules.proofs.best.Best.earlier.Reads as earlier-reads
 use Rattle.rules.proofs.best.Best.fault_if.Reads as fault-if-reads
-use Rattle.rules.proofs.names.start_at.Reads as start-at-reads
+use Rattle.rules.proofs.word.start_at.Reads as start-at-reads
 use Rattle.rules.proofs.wiring.is_unknown.Reads as is-unknown-reads
 use Rattle.rules.proofs.wiring.is_use.Reads as is-use-reads
 
@@ -55,6 +55,7 @@ earlier-requires-2 c κs = search needs
 
 -- src/wiring.rt:194:9
 returns : tie.Need-returns
+unfolding tokenAt
 returns c = (
   omega (arith, c .before .before .before .before .before .before .before .before .before .before .before .before .pre .1 .3),
   λ b cs ss h e.
