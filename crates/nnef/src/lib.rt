@@ -1,13 +1,23 @@
 // The operations under their C names.
 use lexis::Answer;
+ghost use mathlib.Core.Path.{_≡_};
+ghost use lib.ListN.{length};
+ghost use Rattle.lexis.specs.Answer.{tokensAnswer, tokensTable};
+ghost use Rattle.rules.specs.Answer.{declarationsAnswer, checked, checkAnswer, callsAfter, wiresAfter, workAfter};
 
 #[no_mangle]
-pub extern "C" fn nnef_tokens(text: &[u8], table: &mut [u32]) -> Answer {
+pub extern "C" fn nnef_tokens(text: &[u8], table: &mut [u32]) -> Answer
+    ensures { λ r. ⌜ r ≡ tokensAnswer (now (text .entry)) (now (table .entry)) ⌝ }
+    ensures { λ _. ⌜ now (table .exit) ≡ tokensTable (now (text .entry)) (now (table .entry)) ⌝ }
+{
     lexis::tokens(text, table)
 }
 
 #[no_mangle]
-pub extern "C" fn nnef_declarations(list: &[u8], work: &mut [u32]) -> Answer {
+pub extern "C" fn nnef_declarations(list: &[u8], work: &mut [u32]) -> Answer
+    ensures { λ r. ⌜ r ≡ declarationsAnswer (now (list .entry)) (length (now (work .entry))) ⌝ }
+    ensures { λ r. ⌜ now (work .exit) ≡ workAfter r (now (work .entry)) ⌝ }
+{
     rules::declarations(list, work)
 }
 
@@ -15,10 +25,16 @@ pub extern "C" fn nnef_declarations(list: &[u8], work: &mut [u32]) -> Answer {
 pub extern "C" fn nnef_check(
     list: &[u8],
     document: &[u8],
-    list_work: &mut [u32],
-    document_work: &mut [u32],
+    work1: &mut [u32],
+    work2: &mut [u32],
     calls: &mut [u32],
     wires: &mut [u32],
-) -> Answer {
-    rules::check::check(list, document, list_work, document_work, calls, wires)
+) -> Answer
+    ensures { λ r. ⌜ r ≡ checkAnswer (now (list .entry)) (now (document .entry)) (length (now (work1 .entry))) (length (now (work2 .entry))) (length (now (calls .entry))) (length (now (wires .entry))) ⌝ }
+    ensures { λ _. ⌜ now (calls .exit) ≡ callsAfter (checked (now (list .entry)) (now (document .entry)) (length (now (work1 .entry))) (length (now (work2 .entry))) (length (now (calls .entry))) (length (now (wires .entry)))) (now (calls .entry)) ⌝ }
+    ensures { λ _. ⌜ now (wires .exit) ≡ wiresAfter (checked (now (list .entry)) (now (document .entry)) (length (now (work1 .entry))) (length (now (work2 .entry))) (length (now (calls .entry))) (length (now (wires .entry)))) (now (wires .entry)) ⌝ }
+    ensures { λ r. ⌜ now (work1 .exit) ≡ workAfter r (now (work1 .entry)) ⌝ }
+    ensures { λ r. ⌜ now (work2 .exit) ≡ workAfter r (now (work2 .entry)) ⌝ }
+{
+    rules::check::check(list, document, work1, work2, calls, wires)
 }
