@@ -31,7 +31,7 @@ use Rattle.rules.specs.Binding.{Slot, leading, labels, taken, slots, tak
 use Rattle.rules.specs.Wiring.{strangers, isExternal, again, unwiredAfter, misfedBy, misfed, unmade}
 use Rattle.rules.specs.DocumentRules.{find, byOperation, badVersion, documentCounts, graphRepeats, undeclared, argumentFaults, unmatched, documentFaults}
 use Rattle.rules.specs.Answer.{Stage, pass, stop, andThen, bytesStage, syntaxStage, rulesStage, listStages, documentStages, counted, Checked, workAfter}
-use Rattle.rules.specs.Checks.{bothStages}
+use Rattle.rules.specs.Stages.{bothStages}
 use Rattle.rules.proofs.Codes.{stage-codes}
 
 -- ---- the codes of the rules
@@ -222,7 +222,7 @@ document-codes hs text r h = bytes (lex text) refl h
 abbrev pub joined : List Header → Document → Stage Checked
 joined hs d = pass (record { headers = hs; document = d })
 
-both-codes : (list doc : List ℕ) (r : Answer) → bothStages list doc ≡ stop r → 3 ≤ r .code
+pub both-codes : (list doc : List ℕ) (r : Answer) → bothStages list doc ≡ stop r → 3 ≤ r .code
 unfolding bothStages
 both-codes list doc r h = go (listStages list) refl h
   where

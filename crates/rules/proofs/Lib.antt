@@ -23,7 +23,8 @@ pub mod Own
 pub mod Directories
 pub mod Rulings
 pub mod HeaderWalks
-pub mod Stages
+pub mod Front
+pub mod ListStages
 pub mod Codes
 -- Binding: masks; the slots and the faults of one argument more; readers over the two tables; the tally of a call's arguments.
 pub mod Masks
@@ -59,4 +60,5 @@ pub mod Declared
 pub mod CallUsage
 pub mod Storing
 pub mod DocumentCodes
+pub mod BothStages
 pub mod Checks

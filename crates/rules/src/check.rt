@@ -1,37 +1,23 @@
 // The operation `check`: whether a document is well formed under an operation list, and its calls and wires.
 use crate::clear;
 use crate::graph::graph_at;
-use crate::list::Listed;
-use crate::list::list_stages;
+use crate::stages::Staged;
+use crate::stages::both_stages;
 use crate::tables::write_calls;
-use crate::usage::document_rules;
 use crate::wires::write_wires;
 use lexis::Answer;
-use lexis::Counted;
-use lexis::class::CLASSES;
 use lexis::code::Code;
 use lexis::limits::Limits;
-use syntax::Syntax;
-use syntax::read;
 ghost use mathlib.Core.Path.{_≡_};
 ghost use mathlib.Core.Bool.{_&&_};
-ghost use mathlib.Core.List.{List, []};
 ghost use Prim.Native.Nat.{_≤_};
 ghost use lib.Dec.{leb};
 ghost use lib.ListN.{length};
-ghost use lib.Seq.{sets};
 ghost use Rattle.lexis.specs.Answer.{answer};
-ghost use Rattle.lexis.specs.Bytes.{classTable};
-ghost use Rattle.lexis.specs.Sizes.{maxText, maxTokens, maxCalls, maxBrackets, workWords, callWords, wireWords};
-ghost use Rattle.syntax.specs.Tree.{Header, Document};
-ghost use Rattle.syntax.specs.Parser.{parseDocument};
-ghost use Rattle.syntax.specs.Parser.Parse.{ok};
-ghost use Rattle.syntax.specs.Table.{toks, Holds};
-ghost use Rattle.rules.specs.Tables.{callTable, wireTable};
-ghost use Rattle.rules.specs.Lists.{Heads, Places};
+ghost use Rattle.lexis.specs.Sizes.{maxText, maxCalls, workWords, callWords, wireWords};
 ghost use Rattle.rules.specs.Answer.{checked, checkAnswer, callsAfter, wiresAfter, workAfter};
-ghost use Rattle.rules.specs.Stages.{ListPassed};
-ghost use Rattle.rules.specs.Checks.{bothStages, DocumentRead, Ended, Few};
+ghost use Rattle.rules.specs.Stages.{bothStages, BothPassed};
+ghost use Rattle.rules.specs.Checks.{Ended};
 
 // Whether the work areas and the tables have the room that is asked.
 fn rooms_serve(work1: usize, work2: usize, calls: usize, wires: usize) -> bool
@@ -50,7 +36,7 @@ fn rooms_serve(work1: usize, work2: usize, calls: usize, wires: usize) -> bool
 }
 
 // Code 2 for this text.
-fn long_text(text: u32) -> Answer
+pub fn long_text(text: u32) -> Answer
     ensures { λ r. ⌜ r ≡ answer 2 text maxText 0 ⌝ }
 {
     Answer {
@@ -61,116 +47,44 @@ fn long_text(text: u32) -> Answer
     }
 }
 
-// Stores both tables of an accepted document, and gives the number of its calls.
+// Stores both tables of texts that have passed their stages, and gives the number of calls.
 fn write_tables(
     list: &[u8],
-    ltable: &[u32],
-    ln: usize,
-    names: &[u32],
+    work1: &[u32],
+    n: usize,
+    k: usize,
     doc: &[u8],
-    dtable: &[u32],
-    dn: usize,
+    work2: &[u32],
+    m: usize,
     calls: &mut [u32],
     wires: &mut [u32],
 ) -> usize
-    requires { ⌜ Holds (now list) (now ltable) ln ⌝ }
-    requires { ⌜ Holds (now doc) (now dtable) dn ⌝ }
-    requires { ⌜ Places ln (now names) ⌝ }
-    requires { ⌜ (length (now names) ≤ maxTokens) × (dn ≤ maxTokens) ⌝ }
-    requires { ⌜ Few (now doc) (now dtable) dn ⌝ }
+    requires { ⌜ BothPassed (now list) (now doc) (now work1) (now work2) n k m ⌝ }
+    requires { ⌜ workWords ≤ length (now work1) ⌝ }
     requires { ⌜ (callWords ≤ length (now calls)) × (wireWords ≤ length (now wires)) ⌝ }
     ensures { λ r. ⌜ r ≤ maxCalls ⌝ }
-    ensures { λ r. ⌜ ((hs : List Header) (d : Document) → Heads (now (list .entry)) (now (ltable .entry)) ln maxBrackets (now (names .entry)) hs → parseDocument (toks (now (doc .entry)) (now (dtable .entry)) dn 0) ≡ ok d [] →
-        (now (calls .exit) ≡ sets (now (calls .entry)) 0 (callTable hs d)) × (now (wires .exit) ≡ sets (now (wires .entry)) 0 (wireTable d)) × (r ≡ length (d .calls))) ⌝ }
+    ensures { λ r. ⌜ Ended (bothStages (now (list .entry)) (now (doc .entry))) (now (calls .entry)) (now (calls .exit)) (now (wires .entry)) (now (wires .exit)) (answer 0 0 0 r) ⌝ }
 {
-    let graph = graph_at(doc, dtable, dn);
+    let names = &work1[Limits::TABLE_WORDS..Limits::TABLE_WORDS + k];
+    let graph = graph_at(doc, work2, m);
     let count = write_calls(
         list,
-        ltable,
-        ln,
+        work1,
+        n,
         names,
         doc,
-        dtable,
-        dn,
+        work2,
+        m,
         graph.body,
         graph.end,
         calls,
     );
-    write_wires(doc, dtable, dn, graph.body, graph.end, count, wires);
+    write_wires(doc, work2, m, graph.body, graph.end, count, wires);
     count
 }
 
-// The rules of a document under its list; the tables where there is no fault.
-fn rules_stage(
-    list: &[u8],
-    work1: &[u32],
-    ln: usize,
-    k: usize,
-    doc: &[u8],
-    work2: &[u32],
-    dn: usize,
-    calls: &mut [u32],
-    wires: &mut [u32],
-) -> Answer
-    requires { ⌜ ListPassed (now list) (now work1) ln k ⌝ }
-    requires { ⌜ DocumentRead (now doc) (now work2) dn ⌝ }
-    requires { ⌜ (workWords ≤ length (now work1)) × (workWords ≤ length (now work2)) ⌝ }
-    requires { ⌜ (callWords ≤ length (now calls)) × (wireWords ≤ length (now wires)) ⌝ }
-    ensures { λ r. ⌜ Ended (bothStages (now (list .entry)) (now (doc .entry))) (now (calls .entry)) (now (calls .exit)) (now (wires .entry)) (now (wires .exit)) r ⌝ }
-{
-    let ltable = &work1[0..Limits::TABLE_WORDS];
-    let names = &work1[Limits::TABLE_WORDS..Limits::TABLE_WORDS + k];
-    let dtable = &work2[0..Limits::TABLE_WORDS];
-    let best = document_rules(list, ltable, ln, names, doc, dtable, dn);
-    if best.code != 0 {
-        return Answer {
-            code: best.code,
-            text: 2,
-            position: best.at,
-            detail: best.detail,
-        };
-    }
-    Answer {
-        code: 0,
-        text: 0,
-        position: 0,
-        detail: write_tables(list, ltable, ln, names, doc, dtable, dn, calls, wires) as u32,
-    }
-}
-
-// The stages of a document under a list that has passed its own.
-fn document_stages(
-    classes: &[u8; 256],
-    list: &[u8],
-    work1: &[u32],
-    ln: usize,
-    k: usize,
-    doc: &[u8],
-    work2: &mut [u32],
-    calls: &mut [u32],
-    wires: &mut [u32],
-) -> Answer
-    requires { ⌜ now classes ≡ classTable ⌝ }
-    requires { ⌜ ListPassed (now list) (now work1) ln k ⌝ }
-    requires { ⌜ length (now doc) ≤ maxText ⌝ }
-    requires { ⌜ (workWords ≤ length (now work1)) × (workWords ≤ length (now work2)) ⌝ }
-    requires { ⌜ (callWords ≤ length (now calls)) × (wireWords ≤ length (now wires)) ⌝ }
-    ensures { λ r. ⌜ Ended (bothStages (now (list .entry)) (now (doc .entry))) (now (calls .entry)) (now (calls .exit)) (now (wires .entry)) (now (wires .exit)) r ⌝ }
-    ensures { λ _. ⌜ length (now (work2 .exit)) ≡ length (now (work2 .entry)) ⌝ }
-{
-    match read(classes, doc, &mut *work2, Syntax::Document) {
-        Counted::Tokens(n) => rules_stage(list, work1, ln, k, doc, work2, n as usize, calls, wires),
-        Counted::Fault { code, at } => Answer {
-            code: code,
-            text: 2,
-            position: at,
-            detail: 0,
-        },
-    }
-}
-
-// All stages of both texts. Leaves anything in the work areas.
-fn both_stages(
+// The answer of the stages of both texts, and the tables where they pass. Leaves anything in the work areas.
+fn both_answer(
     list: &[u8],
     doc: &[u8],
     work1: &mut [u32],
@@ -185,20 +99,14 @@ fn both_stages(
     ensures { λ _. ⌜ length (now (work1 .exit)) ≡ length (now (work1 .entry)) ⌝ }
     ensures { λ _. ⌜ length (now (work2 .exit)) ≡ length (now (work2 .entry)) ⌝ }
 {
-    let classes = CLASSES;
-    match list_stages(&classes, list, &mut *work1) {
-        Listed::Passed(n, k) => document_stages(
-            &classes,
-            list,
-            work1,
-            n,
-            k,
-            doc,
-            work2,
-            calls,
-            wires,
-        ),
-        Listed::Stopped(r) => r,
+    match both_stages(list, doc, &mut *work1, &mut *work2) {
+        Staged::Passed(n, k, m) => Answer {
+            code: 0,
+            text: 0,
+            position: 0,
+            detail: write_tables(list, work1, n, k, doc, work2, m, calls, wires) as u32,
+        },
+        Staged::Stopped(r) => r,
     }
 }
 
@@ -232,7 +140,7 @@ pub fn check(
     if !Limits::text_fits(doc.len()) {
         return long_text(2);
     }
-    let r = both_stages(list, doc, &mut *work1, &mut *work2, calls, wires);
+    let r = both_answer(list, doc, &mut *work1, &mut *work2, calls, wires);
     clear(work1);
     clear(work2);
     r

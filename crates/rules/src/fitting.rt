@@ -51,7 +51,7 @@ pub struct Shape {
 }
 
 // The number of a digit.
-fn digit(b: u8) -> u64
+pub fn digit(b: u8) -> u64
     ensures range { λ r. ⌜ r < 256 ⌝ }
     ensures meaning { λ r. ⌜ r ≡ b - byte "0" ⌝ }
 {
@@ -244,7 +244,7 @@ fn pairs(text: &[u8], table: &[u32], n: usize, at: usize) -> usize
 }
 
 // The shape of the type at place `at`.
-fn shape_at(text: &[u8], table: &[u32], n: usize, at: usize) -> Shape
+pub fn shape_at(text: &[u8], table: &[u32], n: usize, at: usize) -> Shape
     requires { ⌜ Holds (now text) (now table) n ⌝ }
     ensures range { λ r. ⌜ r .at ≤ n + 1 ⌝ }
     ensures meaning { λ r. ⌜ ((b : ℕ) (u : Ty) (us : List Token) → IsType b (toks (now (text .entry)) (now (table .entry)) n at) u us → NoPair us → Shaped b (toks (now (text .entry)) (now (table .entry)) n at) u (r .pairs) × (us ≡ toks (now (text .entry)) (now (table .entry)) n (r .at))) ⌝ }

@@ -14,6 +14,7 @@ pub mod names;
 pub mod operation;
 pub mod parameter;
 pub mod scan;
+pub mod stages;
 pub mod tables;
 pub mod usage;
 pub mod wires;

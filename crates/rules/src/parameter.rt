@@ -1,5 +1,6 @@
 // The parameters of an operation, read in the list's table from the place after the header's opening bracket: one that is sought, and
-// the mask of those without a default. The parameters are passed one by one; no contract depends on that.
+// the mask of those without a default. The table is lent with the scratch words behind it, for an index; the search here is linear, and
+// no contract depends on that.
 use crate::mask::MASK_BITS;
 use crate::mask::extended;
 use crate::word::alike;

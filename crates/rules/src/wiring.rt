@@ -1,4 +1,5 @@
-// Assigning and using identifiers: which call assigns one, and the faults of names in lists, left sides and arguments.
+// Assigning and using identifiers: which call assigns one, and the faults of names in lists, left sides and arguments. The table is lent
+// with the scratch words behind it, for an index; the search here is linear.
 use crate::best::Best;
 use crate::calls::places_at;
 use crate::names::seen;

@@ -5,7 +5,7 @@ use Rattle.lexis.specs.Answer.{answer}
 use Rattle.lexis.specs.Bytes.{classOf, classesFrom, classTable}
 use Rattle.syntax.specs.Tree.{Header}
 use Rattle.rules.specs.Answer.{Stage, counted}
-use Rattle.rules.proofs.Stages.{passed-is, stopped-is}
+use Rattle.rules.proofs.ListStages.{passed-is, stopped-is}
 use native.Mathlib.Omega.{arith}
 use mathlib.Core.Path.{_≡_, refl, sym, ap, ap₂, _∙_}
 use borrow.Author.Needs.{needs}

@@ -11,11 +11,11 @@ use borrow.Author.Needs.{needs}
 use Rattle.rules.proofs.check.check.Statement.{statement}
 use Rattle.rules.proofs.check.check.Tie as tie
 
--- src/check.rt:187:9
+-- src/check.rt:129:9
 rooms-serve-requires : tie.Need-rooms-serve-requires
 rooms-serve-requires c κs = search needs
 
--- src/check.rt:188:9
+-- src/check.rt:130:9
 returns : tie.Need-returns
 unfolding workAfter
 returns c =
@@ -23,15 +23,15 @@ returns c =
     let e = stages-short (s .args .list .now) (s .args .doc .now) (length (s .args .work1 .now)) (length (s .args .work2 .now)) (length (s .args .calls .now)) (length (s .args .wires .now)) (sym (c .before .rooms-serve .ensures) ∙ not-true _ (c .if1 .taken)) in
     (refused-with (s .args .list .now) (s .args .doc .now) (length (s .args .work1 .now)) (length (s .args .work2 .now)) (length (s .args .calls .now)) (length (s .args .wires .now)) e, (calls-kept (s .args .list .now) (s .args .doc .now) (length (s .args .work1 .now)) (length (s .args .work2 .now)) (length (s .args .calls .now)) (length (s .args .wires .now)) (s .args .calls .now) e, (wires-kept (s .args .list .now) (s .args .doc .now) (length (s .args .work1 .now)) (length (s .args .work2 .now)) (length (s .args .calls .now)) (length (s .args .wires .now)) (s .args .wires .now) e, (refl, refl))))
 
--- src/check.rt:195:9
+-- src/check.rt:137:9
 text-fits-requires : tie.Need-text-fits-requires
 text-fits-requires c κs = search needs
 
--- src/check.rt:199:23
+-- src/check.rt:138:9
 long-text-requires : tie.Need-long-text-requires
 long-text-requires c κs = search needs
 
--- src/check.rt:196:9
+-- src/check.rt:138:9
 returns-2 : tie.Need-returns-2
 returns-2 c =
     let s = c .before .before .before .before .before .before .before .before .before .before .before in
@@ -39,15 +39,15 @@ returns-2 c =
     let e = stages-long (s .args .list .now) (s .args .doc .now) (length (s .args .work1 .now)) (length (s .args .work2 .now)) (length (s .args .calls .now)) (length (s .args .wires .now)) (sym (c .before .before .before .before .rooms-serve .ensures) ∙ not-false _ (c .before .before .before .if1 .left)) (sym (c .before .before .text-fits .ensures) ∙ not-true _ (c .before .if2 .taken)) in
     (l ∙ refused-with (s .args .list .now) (s .args .doc .now) (length (s .args .work1 .now)) (length (s .args .work2 .now)) (length (s .args .calls .now)) (length (s .args .wires .now)) e, (calls-kept (s .args .list .now) (s .args .doc .now) (length (s .args .work1 .now)) (length (s .args .work2 .now)) (length (s .args .calls .now)) (length (s .args .wires .now)) (s .args .calls .now) e, (wires-kept (s .args .list .now) (s .args .doc .now) (length (s .args .work1 .now)) (length (s .args .work2 .now)) (length (s .args .calls .now)) (length (s .args .wires .now)) (s .args .wires .now) e, (long-kept (s .args .work1 .now) l, long-kept (s .args .work2 .now) l))))
 
--- src/check.rt:203:9
+-- src/check.rt:140:9
 text-fits-requires-2 : tie.Need-text-fits-requires-2
 text-fits-requires-2 c κs = search needs
 
--- src/check.rt:207:23
+-- src/check.rt:141:9
 long-text-requires-2 : tie.Need-long-text-requires-2
 long-text-requires-2 c κs = search needs
 
--- src/check.rt:204:9
+-- src/check.rt:141:9
 returns-3 : tie.Need-returns-3
 returns-3 c =
     let s = c .before .before .before .before .before .before .before .before .before .before .before .before .before in
@@ -55,42 +55,42 @@ returns-3 c =
     let e = stages-long-too (s .args .list .now) (s .args .doc .now) (length (s .args .work1 .now)) (length (s .args .work2 .now)) (length (s .args .calls .now)) (length (s .args .wires .now)) (sym (c .before .before .before .before .before .before .rooms-serve .ensures) ∙ not-false _ (c .before .before .before .before .before .if1 .left)) (sym (c .before .before .before .before .text-fits .ensures) ∙ not-false _ (c .before .before .before .if2 .left)) (sym (c .before .before .text-fits2 .ensures) ∙ not-true _ (c .before .if3 .taken)) in
     (l ∙ refused-with (s .args .list .now) (s .args .doc .now) (length (s .args .work1 .now)) (length (s .args .work2 .now)) (length (s .args .calls .now)) (length (s .args .wires .now)) e, (calls-kept (s .args .list .now) (s .args .doc .now) (length (s .args .work1 .now)) (length (s .args .work2 .now)) (length (s .args .calls .now)) (length (s .args .wires .now)) (s .args .calls .now) e, (wires-kept (s .args .list .now) (s .args .doc .now) (length (s .args .work1 .now)) (length (s .args .work2 .now)) (length (s .args .calls .now)) (length (s .args .wires .now)) (s .args .wires .now) e, (long-kept (s .args .work1 .now) l, long-kept (s .args .work2 .now) l))))
 
--- src/check.rt:211:9
-both-stages-requires : tie.Need-both-stages-requires
-both-stages-requires c κs =
+-- src/check.rt:143:9
+both-answer-requires : tie.Need-both-answer-requires
+both-answer-requires c κs =
     let s = c .before .before .before .before .before .before .before .before .before .before .before .before .before .before .before .before in
     let r = room-parts (s .args .list .now) (s .args .doc .now) (length (s .args .work1 .now)) (length (s .args .work2 .now)) (length (s .args .calls .now)) (length (s .args .wires .now)) (sym (c .before .before .before .before .before .before .before .before .before .rooms-serve .ensures) ∙ not-false _ (c .before .before .before .before .before .before .before .before .if1 .left)) in
     ((leb-true (length (s .args .list .now)) maxText (sym (c .before .before .before .before .before .before .before .text-fits .ensures) ∙ not-false _ (c .before .before .before .before .before .before .if2 .left)), leb-true (length (s .args .doc .now)) maxText (sym (c .before .before .before .before .before .text-fits2 .ensures) ∙ not-false _ (c .before .before .before .before .if3 .left))), ((r .0, r .1), (r .2, r .3)))
 
--- src/check.rt:212:5
+-- src/check.rt:144:5
 clear-requires : tie.Need-clear-requires
 clear-requires c κs = search needs
 
--- src/check.rt:213:5
+-- src/check.rt:145:5
 clear-requires-2 : tie.Need-clear-requires-2
 clear-requires-2 c κs = search needs
 
--- src/check.rt:173:1
+-- src/check.rt:115:1
 same-length : tie.Need-same-length
 same-length c = search needs
 
--- src/check.rt:173:1
+-- src/check.rt:115:1
 same-length-2 : tie.Need-same-length-2
 same-length-2 c = search needs
 
--- src/check.rt:173:1
+-- src/check.rt:115:1
 same-length-3 : tie.Need-same-length-3
 same-length-3 c = search needs
 
--- src/check.rt:173:1
+-- src/check.rt:115:1
 same-length-4 : tie.Need-same-length-4
 same-length-4 c = search needs
 
--- src/check.rt:173:1
+-- src/check.rt:115:1
 returns-4 : tie.Need-returns-4
 returns-4 c =
     let s = c .before .before .before .before .before .before .before .before .before .before .before .before .before .before .before .before .before .before .before .before .before .before .before .before .before .before .before .before .before .before .before .before .before in
-    let e = c .before .before .before .before .before .before .before .before .before .before .before .before .before .before .before .before .both-stages .ensures in
+    let e = c .before .before .before .before .before .before .before .before .before .before .before .before .before .before .before .before .both-answer .ensures in
     let g = stages-good (s .args .list .now) (s .args .doc .now) (length (s .args .work1 .now)) (length (s .args .work2 .now)) (length (s .args .calls .now)) (length (s .args .wires .now)) (sym (c .before .before .before .before .before .before .before .before .before .before .before .before .before .before .before .before .before .before .before .before .before .before .before .before .before .before .rooms-serve .ensures) ∙ not-false _ (c .before .before .before .before .before .before .before .before .before .before .before .before .before .before .before .before .before .before .before .before .before .before .before .before .before .if1 .left)) (sym (c .before .before .before .before .before .before .before .before .before .before .before .before .before .before .before .before .before .before .before .before .before .before .before .before .text-fits .ensures) ∙ not-false _ (c .before .before .before .before .before .before .before .before .before .before .before .before .before .before .before .before .before .before .before .before .before .before .before .if2 .left)) (sym (c .before .before .before .before .before .before .before .before .before .before .before .before .before .before .before .before .before .before .before .before .before .before .text-fits2 .ensures) ∙ not-false _ (c .before .before .before .before .before .before .before .before .before .before .before .before .before .before .before .before .before .before .before .before .before .if3 .left)) in
     let h = e .0 .answered in (
       answered-with (s .args .list .now) (s .args .doc .now) (length (s .args .work1 .now)) (length (s .args .work2 .now)) (length (s .args .calls .now)) (length (s .args .wires .now)) g h,
@@ -118,7 +118,7 @@ check-spec =
     text-fits-requires-2
     long-text-requires-2
     returns-3
-    both-stages-requires
+    both-answer-requires
     clear-requires
     clear-requires-2
     same-length

@@ -2,59 +2,79 @@
 use native.Mathlib.Omega.{arith}
 use Rattle.lexis.specs.Sizes.{maxBrackets}
 use Rattle.rules.specs.Tables.{callTable, wireTable}
+use Rattle.rules.proofs.BothStages.{part-heads, part-places, part-few}
+use Rattle.rules.proofs.Checks.{body-passed, ended-passed}
 use borrow.Author.Needs.{needs}
 use Rattle.rules.proofs.check.write_tables.Statement.{statement}
 use Rattle.rules.proofs.check.write_tables.Tie as tie
 
--- src/check.rt:73:9
+-- src/check.rt:68:45
+add-names : tie.Need-add-names
+add-names c = search needs
+
+-- src/check.rt:68:17
+sub-names : tie.Need-sub-names
+sub-names c = search needs
+
+-- src/check.rt:68:17
+part-names-start : tie.Need-part-names-start
+part-names-start c = search needs
+
+-- src/check.rt:68:17
+part-names-end : tie.Need-part-names-end
+part-names-end c = search needs
+
+-- src/check.rt:69:9
 graph-at-requires : tie.Need-graph-at-requires
 graph-at-requires c κs = search needs
 
--- src/check.rt:74:9
+-- src/check.rt:70:9
 write-calls-requires : tie.Need-write-calls-requires
 write-calls-requires c κs =
     let s = c .before .before .before .before .before .before .before .before .before in
-    let f = s .pre .1 .1 .1 .1 .0 in
+    let l = s .pre .0 .first in
+    let d = s .pre .0 .second in
     let g = c .before .graph-at .ensures in
-    (s .pre .0, (s .pre .1 .0, (s .pre .1 .1 .0, ((s .pre .1 .1 .1 .0 .0, s .pre .1 .1 .1 .0 .1, g .0 .2), (record { calls = f .document .calls; are = g .1 maxBrackets (f .document) (f .parsed) .calls; few = f .few; uses = f .uses }, s .pre .1 .1 .1 .1 .1 .0)))))
+    (l .table, (d .table, (part-places l, ((part-few l, d .small, g .0 .2), (body-passed d (g .1 maxBrackets (d .document) (d .parsed)), s .pre .1 .1 .0)))))
 
--- src/check.rt:75:5
+-- src/check.rt:82:5
 write-wires-requires : tie.Need-write-wires-requires
 write-wires-requires c κs =
     let s = c .before .before .before .before .before .before .before .before .before .before .before .before .before in
-    let f = s .pre .1 .1 .1 .1 .0 in
+    let d = s .pre .0 .second in
     let g = c .before .before .before .before .before .graph-at .ensures in
-    let a = g .1 maxBrackets (f .document) (f .parsed) .calls in
-    let n = c .before .before .before .write-calls .ensures .1 .0 (f .document .calls) a in
-    (s .pre .1 .0, (record { calls = f .document .calls; are = a; few = f .few; uses = f .uses }, ((g .0 .2, omega (arith, n, f .few)), s .pre .1 .1 .1 .1 .1 .1)))
+    let b = body-passed d (g .1 maxBrackets (d .document) (d .parsed)) in
+    (d .table, (b, ((g .0 .2, omega (arith, c .before .before .before .write-calls .ensures .1 .0 (b .calls) (b .are), b .few)), s .pre .1 .1 .1)))
 
--- src/check.rt:52:1
+-- src/check.rt:51:1
 same-length : tie.Need-same-length
 same-length c = search needs
 
--- src/check.rt:52:1
+-- src/check.rt:51:1
 same-length-2 : tie.Need-same-length-2
 same-length-2 c = search needs
 
--- src/check.rt:52:1
+-- src/check.rt:51:1
 returns : tie.Need-returns
 unfolding callTable wireTable
 returns c =
     let s = c .before .before .before .before .before .before .before .before .before .before .before .before .before .before .before .before in
-    let f = s .pre .1 .1 .1 .1 .0 in
-    let g = c .before .before .before .before .before .before .before .before .graph-at .ensures .1 in
-    let n = c .before .before .before .before .before .before .write-calls .ensures .1 .0 (f .document .calls) (g maxBrackets (f .document) (f .parsed) .calls) in (
-      omega (arith, n, f .few),
-      λ hs d h e.
-          let a = g maxBrackets d e .calls in
-          let m = c .before .before .before .before .before .before .write-calls .ensures .1 .0 (d .calls) a in
-          (c .before .before .before .before .before .before .write-calls .ensures .1 .1 hs (d .calls) h a, c .before .before .write-wires .ensures .1 (d .calls) a m, m),
-    )
+    let p = s .pre .0 in
+    let d = p .second .document in
+    let a = c .before .before .before .before .before .before .before .before .graph-at .ensures .1 maxBrackets d (p .second .parsed) in
+    let b = body-passed (p .second) a in
+    let w = c .before .before .before .before .before .before .write-calls .ensures .1 in
+    let n = w .0 (d .calls) (a .calls) in
+    (omega (arith, w .0 (b .calls) (b .are), b .few), ended-passed (s .args .list .now) (s .args .doc .now) (s .args .calls .now) (s .args .wires .now) p (w .1 (p .first .headers) (d .calls) (part-heads (p .first)) (a .calls)) (c .before .before .write-wires .ensures .1 (d .calls) (a .calls) n) n)
 
 pub write-tables-spec : {M : Type 1} → statement M
 write-tables-spec =
     tie.close
     (tie.spec
+    add-names
+    sub-names
+    part-names-start
+    part-names-end
     graph-at-requires
     write-calls-requires
     write-wires-requires

@@ -1,7 +1,7 @@
 use lib.ListN.{length}
 use Rattle.lexis.specs.Lexer.{lex}
 use Rattle.syntax.proofs.Reading.{room-of}
-use Rattle.rules.proofs.Stages.{read-list, read-stops, written-length}
+use Rattle.rules.proofs.ListStages.{read-list, read-stops, written-length}
 use native.Mathlib.Omega.{arith}
 use mathlib.Core.Path.{_≡_, refl, sym, ap, ap₂, _∙_}
 use borrow.Author.Needs.{needs}

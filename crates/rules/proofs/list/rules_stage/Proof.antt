@@ -1,5 +1,5 @@
 use Rattle.lexis.specs.Sizes.{maxBrackets}
-use Rattle.rules.proofs.Stages.{same-table, part-names, same-size, rules-pass, rules-stop}
+use Rattle.rules.proofs.ListStages.{same-table, part-names, same-size, rules-pass, rules-stop}
 use native.Mathlib.Omega.{arith}
 use mathlib.Core.Path.{_≡_, refl, sym, ap, ap₂, _∙_}
 use borrow.Author.Needs.{needs}

@@ -1,14 +1,15 @@
 -- From the bytes of an operation list to its answer: what its tokens' table holds, what the rules come to, what is left in
--- its work area. Relies on `lexis` and `syntax` for the table and the faults of bytes and syntax.
+-- its work area. Relies on `lexis` and `syntax` for the table and the faults of bytes and syntax, on `Front` for the table in front of a
+-- work area.
 use mathlib.Core.Path.{_≡_, refl, sym, ap, ap₂, subst, _∙_}
-use mathlib.Core.List.{List, [], _∷_, _++_, append-assoc}
+use mathlib.Core.List.{List, [], _++_, append-assoc}
 use mathlib.Core.Option.{some}
 use mathlib.Core.Option.{none as nothing}
-use Prim.Native.Nat.{ℕ, zero, suc, _+_, _-_, _*_, _≤_}
+use Prim.Native.Nat.{ℕ, suc, _+_, _-_, _*_, _≤_}
 use native.Mathlib.Nat.{zero-add}
 use native.Mathlib.Omega.{arith}
 use lib.ListN.{length, take, drop}
-use lib.Seq.{sets-eq, length-sets, getD-take, take-at, drop-at, length-take-le}
+use lib.Seq.{sets-eq, length-sets, take-at, drop-at, length-take-le}
 use borrow.Author.Tests.{ne-eqb}
 use Rattle.lexis.specs.Sizes.{maxTokens, tokenWords, tableWords, workWords, maxBrackets}
 use Rattle.lexis.specs.Lexer.{Token, Lexed, accepted, refused, lex}
@@ -20,7 +21,7 @@ use Rattle.lexis.specs.declared.Counted.the-variants as C
 use Rattle.syntax.specs.Tree.{Header}
 use Rattle.syntax.specs.Parser.{Parse, parseList}
 use Rattle.syntax.specs.Parser.Parse.{ok, bad}
-use Rattle.syntax.specs.Table.{kindAt, startAt, endAt, tokenAt, tokensFrom, toks, placeOf, parsed, Holds}
+use Rattle.syntax.specs.Table.{toks, placeOf, parsed}
 use Rattle.syntax.specs.Read.{agreed, readAfter, readOf}
 use Rattle.syntax.specs.declared.Syntax.the-variants as S
 use Rattle.syntax.proofs.Reading.{got}
@@ -34,37 +35,7 @@ use Rattle.rules.specs.Stages.{ListRead, namesOf, ListPassed, ListDone}
 use Rattle.rules.specs.declared.best.Best.{Best}
 use Rattle.rules.specs.declared.list.Listed.{Listed}
 use Rattle.rules.specs.declared.list.Listed.the-variants.{Passed, Stopped}
-
--- ---- the table in front of a work area
-
--- tokens in the first m words are those of the whole
-pub tokens-in : (text work : List ℕ) (m i k : ℕ) → (i + k) * tokenWords ≤ m → tokensFrom text (take m work) i k ≡ tokensFrom text work i k
-unfolding tokensFrom tokenAt
-tokens-in text work m i zero h = refl
-tokens-in text work m i (suc k) h =
-    ap₂ (λ (x : Token) (xs : List Token). x ∷ xs) same (tokens-in text work m (i + 1) k (omega arith))
-  where
-    a : kindAt (take m work) i ≡ kindAt work i
-    a = getD-take m work (i * tokenWords) 0 (omega arith)
-
-    b : startAt (take m work) i ≡ startAt work i
-    b = getD-take m work (i * tokenWords + 1) 0 (omega arith)
-
-    c : endAt (take m work) i ≡ endAt work i
-    c = getD-take m work (i * tokenWords + 2) 0 (omega arith)
-
-    same : tokenAt text (take m work) i ≡ tokenAt text work i
-    same = λ j. record { kind = a j; start = b j; bytes = take (c j - b j) (drop (b j) text) }
-
-pub holds-in : (text work : List ℕ) (m n : ℕ) → n * tokenWords ≤ m → m ≤ length work → Holds text work n → Holds text (take m work) n
-holds-in text work m n h l k = record {
-  room = let e = length-take-le m work l in omega arith;
-  within = λ i j.
-      let b = getD-take m work (i * tokenWords + 1) 0 (omega arith) in
-      let c = getD-take m work (i * tokenWords + 2) 0 (omega arith) in
-      let w = k .within i j in
-      (omega (arith, b, c, w .0), omega (arith, c, w .1));
-}
+use Rattle.rules.proofs.Front.{toks-front, front-holds, whole-holds, whole-heads}
 
 -- ---- bytes and syntax
 
@@ -81,11 +52,12 @@ module _ (text before after : List ℕ) (n : ℕ) (small : n ≤ maxTokens) (lar
           let m : n ≡ length ts = cc in
           let g = got text before after (C.Tokens n) n (ap C.Tokens (m ∙ sym (zero-add (length ts))) ∙ ap LA.counted (sym e)) (subst (λ (l : Lexed). Written l before after) (sym e) w) (small, r) refl in
           let same : g .tokens ≡ ts = let y = sym (g .is) ∙ e in cc in
-          let d : toks text (tableOf after) n 0 ≡ ts = tokens-in text after tableWords 0 (n - 0) (omega arith) ∙ g .decoded ∙ same in
+          let d : toks text (tableOf after) n 0 ≡ ts = toks-front text after tableWords n (omega arith) 0 ∙ g .decoded ∙ same in
           let none : us ≡ [] = list-all-read maxBrackets ts hs us q in
           record {
             headers = hs;
-            table = holds-in text after tableWords n (omega arith) (omega arith) (g .table);
+            lexed = e ∙ ap accepted (sym d);
+            table = front-holds text after tableWords n (omega arith) (omega arith) (g .table);
             parsed = ap parseList d ∙ q ∙ ap (λ (x : List Token). ok hs x) none;
             stages =
                 ap (λ (l : Lexed). andThen (bytesStage 1 l) (λ xs. andThen (syntaxStage 1 text (parseList xs)) (λ ys. rulesStage 1 ys (first (listFaults ys))))) e
@@ -155,16 +127,19 @@ module _ {text before after : List ℕ} {n k : ℕ} (small : n ≤ maxTokens) (l
       unfolding meant
       rules-pass z =
           let m : nothing ≡ first (listFaults (list .headers)) = rw z at found-is in
+          let fit : n * tokenWords ≤ tableWords = omega arith in
+          let whole : toks text (tableOf before) n 0 ≡ toks text after n 0 = ap (λ (x : List ℕ). toks text x n 0) (sym same-table) ∙ toks-front text after tableWords n fit 0 in
           record {
             headers = list .headers;
             stages = list .stages ∙ ap (rulesStage 1 (list .headers)) (sym m);
             count = heads-length heads-are ∙ dir .count;
             small = small;
             few = dir .few;
-            table = rw same-table (list .table);
-            parsed = rw same-table (list .parsed);
+            lexed = list .lexed ∙ ap accepted whole;
+            table = whole-holds text after tableWords n fit (rw same-table (list .table));
+            parsed = ap parseList (sym whole) ∙ list .parsed;
             places = rw same-names (dir .places);
-            heads = rw (same-table, same-names) heads-are;
+            heads = whole-heads text after tableWords n fit (rw (same-table, same-names) heads-are);
           }
 
       pub rules-stop : (best .code ≡ 0 → ⊥) → listStages text ≡ stop (answer (best .code) 1 (best .at) (best .detail))
