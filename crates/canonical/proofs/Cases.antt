@@ -1,0 +1,171 @@
+-- Worked examples, by computation. The table of the cases P1 to P12, under one statement; then documents that look different and say the
+-- same, two by two, with their one canonical text.
+use Prim.Native.Nat.{ℕ}
+use Prim.Native.String.{String}
+use mathlib.Core.Path.{_≡_, refl}
+use mathlib.Core.Bool.{Bool, true, false, cond, _&&_, _||_}
+use mathlib.Core.List.{List, [], _∷_, _++_, map, flatMap, flatten}
+use lib.IntN.{ℤ, pos}
+use Rattle.lexis.specs.Sizes.{maxBrackets, workWords, callWords, wireWords}
+use Rattle.lexis.specs.Ascii.{ascii}
+use Rattle.lexis.specs.Code as Code
+use Rattle.lexis.specs.Kind as Kind
+use Rattle.lexis.specs.Bytes.{classOf, spanLen, gapFrom}
+use Rattle.lexis.specs.Words.{sameBytes, words, kindIn}
+use Rattle.lexis.specs.Number.{fracLen, signLen, isE, expLen, partsOf, sticks, valueFrom, writtenOf, minusOf, strip, reducedOf, isNear, isSmall, inRange}
+use Rattle.lexis.specs.Lexeme.{numberLexeme, wordLexeme, stringLexeme, takesEqual, isPair, isArrow, markLexeme, lexeme}
+use Rattle.lexis.specs.Lexer.{Token, Lexed, accepted, refused, admit, lexFrom, lex}
+use Rattle.lexis.specs.Answer.{answer}
+use Rattle.lexis.specs.declared.Answer.{Answer}
+use Rattle.syntax.specs.Symbol.{keywordSymbol, symbolOf, symOf}
+use Rattle.syntax.specs.Tree.{Value, Ty}
+use Rattle.syntax.specs.Grammar.{literals}
+use Rattle.syntax.specs.Parser as P
+use Rattle.syntax.specs.Parser.{Parse}
+use Rattle.syntax.specs.Parser.Parse.{ok, bad}
+use Rattle.rules.specs.Fault as F
+use Rattle.rules.specs.Names as N
+use Rattle.rules.specs.Reading as R
+use Rattle.rules.specs.ListRules as L
+use Rattle.rules.specs.Binding as B
+use Rattle.rules.specs.Wiring as W
+use Rattle.rules.specs.DocumentRules as D
+use Rattle.rules.specs.Answer as A
+use Rattle.rules.specs.Answer.{Stage, pass, stop, checkAnswer}
+use Rattle.canonical.specs.Plan as Plan
+use Rattle.canonical.specs.Spelling as S
+use Rattle.canonical.specs.Pieces as Pieces
+use Rattle.canonical.specs.Layout as Layout
+use Rattle.canonical.specs.Answer as C
+use Rattle.canonical.specs.Answer.{written}
+
+-- ---- P1 to P12
+
+-- what a case gives: the four numbers of check; the kinds of a text's tokens; the code and the position of a fault; a reduced number;
+-- whether a value fits a type; the bytes that canon writes, or its refusal
+pub data Outcome : Type 0 where
+  numbers : Answer → Outcome
+  kinds : List ℕ → Outcome
+  fault : ℕ → ℕ → Outcome
+  reduced : ℕ → ℤ → Outcome
+  fits : Bool → Outcome
+  bytes : List ℕ → Outcome
+
+pub record Case : Type 0 where
+  pub gives : Outcome
+  pub is : Outcome
+
+-- the tokens of a text; none of one that is refused
+tokensOf : Lexed → List Token
+tokensOf (accepted ts) = ts
+tokensOf (refused c p) = []
+
+checks : String → String → Answer → Case
+checks list doc r = record { gives = numbers (checkAnswer (ascii list) (ascii doc) workWords workWords callWords wireWords); is = numbers r }
+
+outcome : Lexed → Outcome
+outcome (accepted ts) = kinds (map (λ (t : Token). t .kind) ts)
+outcome (refused c p) = fault c p
+
+lexes : String → Outcome → Case
+lexes text o = record { gives = outcome (lex (ascii text)); is = o }
+
+reduces : String → ℕ → ℤ → Case
+reduces text m e = let r = reducedOf (ascii text) (partsOf (ascii text)) in record { gives = reduced (r .mantissa) (r .exponent); is = reduced m e }
+
+fitsParsed : Parse Value → Parse Ty → Bool
+fitsParsed (ok v us) (ok u ws) = R.fits v u
+fitsParsed (ok v us) (bad c ws) = false
+fitsParsed (bad c us) p = false
+
+suits : String → String → Bool → Case
+suits v u b = record { gives = fits (fitsParsed (P.value literals maxBrackets (tokensOf (lex (ascii v)))) (P.type maxBrackets (tokensOf (lex (ascii u))))); is = fits b }
+
+bytesOf : Stage (List ℕ) → Outcome
+bytesOf (pass w) = bytes w
+bytesOf (stop r) = numbers r
+
+-- lent an output of so many bytes
+writes : String → String → ℕ → String → Case
+writes list doc n text = record { gives = bytesOf (written (ascii list) (ascii doc) workWords workWords n); is = bytes (ascii text) }
+
+pub cases : List Case
+cases =
+    -- P1
+    checks "" "" (answer 9 2 0 0)
+    -- P2
+    ∷ lexes "1." (fault Code.misspelt 0)
+    -- P3
+    ∷ lexes "1e2" (kinds (Kind.real ∷ []))
+    -- P4
+    ∷ lexes "a<=b" (kinds (Kind.name ∷ Kind.operator ∷ Kind.name ∷ []))
+    -- P5
+    ∷ lexes "'ab" (fault Code.badString 0)
+    -- P6
+    ∷ reduces "0.0500e3" 5 (pos 1)
+    -- P7
+    ∷ reduces "000" 0 (pos 0)
+    -- P8
+    ∷ suits "2147483647" "extent" true
+    ∷ suits "2147483648" "extent" false
+    -- P9
+    ∷ suits "[]" "extent[][]" true
+    -- P10
+    ∷ suits "[1,2.5]" "scalar[]" true
+    ∷ suits "[1,2.5]" "extent[]" false
+    -- P11
+    ∷ lexes "in" (kinds (Kind.keyword ∷ []))
+    ∷ lexes "in_" (kinds (Kind.name ∷ []))
+    -- P12
+    ∷ writes
+    "fragment external(shape: extent[]) -> (output: tensor) fragment scale(x: tensor, by: scalar = 1) -> (y: tensor)"
+    "version 1.0 graph win(px) -> (out) { px = external(shape=[01,9]); out = scale(px, by=0.50) }"
+    88
+    "version 1.0\ngraph win(px)->(out)\n{\npx=external(shape=[1,9]);\nout=scale(x=px,by=5e-1);\n}\n"
+    ∷ []
+
+pub right : map (λ (c : Case). c .gives) cases ≡ map (λ (c : Case). c .is) cases
+unfolding flatten flatMap classOf spanLen gapFrom sameBytes words kindIn fracLen signLen isE expLen partsOf sticks valueFrom writtenOf minusOf strip reducedOf isNear isSmall inRange numberLexeme wordLexeme stringLexeme takesEqual isPair isArrow markLexeme lexeme admit lexFrom keywordSymbol symbolOf symOf P.expect P.follow P.rowF P.row P.valueStep P.arrayItems P.tupleItems P.bracketed P.value P.typeName P.dims P.tupleTypes P.baseStep P.type P.default P.param P.result P.header P.operations P.argument P.left P.call P.document R.readAt R.readAll R.readEach R.fits R.allTensor R.allTensors R.typesOf R.resultType B.leading B.byName B.slotsFrom D.find Plan.valueFor Plan.valuesFor Plan.planCall Plan.planCalls Plan.planOf F.before F.first N.those N.isAmong N.repeatsAfter N.namesIn N.namesOf N.used N.allAssigned N.allUsed L.listCounts L.listRepeats L.badDefaults L.listFaults B.labels B.taken B.misplacedFrom B.misnamed B.misfits B.missingFrom W.again W.unwiredAfter W.misfedBy W.misfed W.unmade D.badVersion D.documentCounts D.graphRepeats D.undeclared D.argumentFaults D.unmatched D.documentFaults A.listStages A.documentStages A.checked A.checkAnswer S.digitsBy S.digits S.spellExponent S.spellNumber S.holdsSingle S.quoteFor S.spellString Pieces.text Layout.pieces Layout.items Layout.moreItems Layout.leftPieces Layout.moreNames Layout.names Layout.moreArguments Layout.arguments Layout.paramsOf Layout.callPieces Layout.callsPieces Layout.document C.layoutOf C.writingStages C.written cases tokensOf checks outcome lexes reduces fitsParsed suits bytesOf writes
+right = refl
+
+-- ---- one plan, two spellings
+
+-- a document under this list, and its canonical text
+respelt : String → String → Case
+respelt doc text =
+    writes
+    "fragment external(shape: extent[]) -> (output: tensor) fragment scale(x: tensor, by: scalar = 1, note: string = '') -> (y: tensor) fragment split(x: tensor) -> (a: tensor, b: tensor)"
+    doc 1000 text
+
+-- Two documents at a time that look different and say the same: `equal-plans` of the theorems says that their bytes are equal, and these are the bytes.
+pub spellings : List Case
+spellings =
+    -- white space and comments
+    respelt "version 1.0 graph g(p)->(q){p=external(shape=[2]);q=scale(p);}" "version 1.0\ngraph g(p)->(q)\n{\np=external(shape=[2]);\nq=scale(x=p,by=1e0,note='');\n}\n"
+    ∷ respelt "version 1.0 # one\ngraph g( p ) -> ( q )\n{ p = external( shape = [ 2 ] ) ;\n\tq = scale( p ) ; }" "version 1.0\ngraph g(p)->(q)\n{\np=external(shape=[2]);\nq=scale(x=p,by=1e0,note='');\n}\n"
+    -- the order of named arguments
+    ∷ respelt "version 1.0 graph g(p)->(q){p=external(shape=[2]);q=scale(x=p,by=3,note='n');}" "version 1.0\ngraph g(p)->(q)\n{\np=external(shape=[2]);\nq=scale(x=p,by=3e0,note='n');\n}\n"
+    ∷ respelt "version 1.0 graph g(p)->(q){p=external(shape=[2]);q=scale(note='n',x=p,by=3);}" "version 1.0\ngraph g(p)->(q)\n{\np=external(shape=[2]);\nq=scale(x=p,by=3e0,note='n');\n}\n"
+    -- positional or named
+    ∷ respelt "version 1.0 graph g(p)->(q){p=external(shape=[2]);q=scale(p,by=3);}" "version 1.0\ngraph g(p)->(q)\n{\np=external(shape=[2]);\nq=scale(x=p,by=3e0,note='');\n}\n"
+    ∷ respelt "version 1.0 graph g(p)->(q){p=external(shape=[2]);q=scale(x=p,by=3);}" "version 1.0\ngraph g(p)->(q)\n{\np=external(shape=[2]);\nq=scale(x=p,by=3e0,note='');\n}\n"
+    -- a default, or the same written out
+    ∷ respelt "version 1.0 graph g(p)->(q){p=external(shape=[2]);q=scale(p);}" "version 1.0\ngraph g(p)->(q)\n{\np=external(shape=[2]);\nq=scale(x=p,by=1e0,note='');\n}\n"
+    ∷ respelt "version 1.0 graph g(p)->(q){p=external(shape=[2]);q=scale(p,by=1.0,note='');}" "version 1.0\ngraph g(p)->(q)\n{\np=external(shape=[2]);\nq=scale(x=p,by=1e0,note='');\n}\n"
+    -- spellings of numbers
+    ∷ respelt "version 1.0 graph g(p)->(q){p=external(shape=[02]);q=scale(p,by=0.50);}" "version 1.0\ngraph g(p)->(q)\n{\np=external(shape=[2]);\nq=scale(x=p,by=5e-1,note='');\n}\n"
+    ∷ respelt "version 1.0 graph g(p)->(q){p=external(shape=[2]);q=scale(p,by=5e-1);}" "version 1.0\ngraph g(p)->(q)\n{\np=external(shape=[2]);\nq=scale(x=p,by=5e-1,note='');\n}\n"
+    -- quotes
+    ∷ respelt "version 1.0 graph g(p)->(q){p=external(shape=[2]);q=scale(p,note='n');}" "version 1.0\ngraph g(p)->(q)\n{\np=external(shape=[2]);\nq=scale(x=p,by=1e0,note='n');\n}\n"
+    ∷ respelt "version 1.0 graph g(p)->(q){p=external(shape=[2]);q=scale(p,note=\"n\");}" "version 1.0\ngraph g(p)->(q)\n{\np=external(shape=[2]);\nq=scale(x=p,by=1e0,note='n');\n}\n"
+    -- a bare or a bracketed top tuple
+    ∷ respelt "version 1.0 graph g(p)->(q){p=external(shape=[2]);q,r=split(p);}" "version 1.0\ngraph g(p)->(q)\n{\np=external(shape=[2]);\nq,r=split(x=p);\n}\n"
+    ∷ respelt "version 1.0 graph g(p)->(q){p=external(shape=[2]);(q,r)=split(p);}" "version 1.0\ngraph g(p)->(q)\n{\np=external(shape=[2]);\nq,r=split(x=p);\n}\n"
+    -- semicolons or none
+    ∷ respelt "version 1.0 graph g(p)->(q){p=external(shape=[2]);q=scale(p);}" "version 1.0\ngraph g(p)->(q)\n{\np=external(shape=[2]);\nq=scale(x=p,by=1e0,note='');\n}\n"
+    ∷ respelt "version 1.0 graph g(p)->(q){p=external(shape=[2])q=scale(p)}" "version 1.0\ngraph g(p)->(q)\n{\np=external(shape=[2]);\nq=scale(x=p,by=1e0,note='');\n}\n"
+    ∷ []
+
+pub one-text : map (λ (c : Case). c .gives) spellings ≡ map (λ (c : Case). c .is) spellings
+unfolding flatten flatMap classOf spanLen gapFrom sameBytes words kindIn fracLen signLen isE expLen partsOf sticks valueFrom writtenOf minusOf strip reducedOf isNear isSmall inRange numberLexeme wordLexeme stringLexeme takesEqual isPair isArrow markLexeme lexeme admit lexFrom keywordSymbol symbolOf symOf P.expect P.follow P.rowF P.row P.valueStep P.arrayItems P.tupleItems P.bracketed P.value P.typeName P.dims P.tupleTypes P.baseStep P.type P.default P.param P.result P.header P.operations P.argument P.left P.call P.document R.readAt R.readAll R.readEach R.fits R.allTensor R.allTensors R.typesOf R.resultType B.leading B.byName B.slotsFrom D.find Plan.valueFor Plan.valuesFor Plan.planCall Plan.planCalls Plan.planOf F.before F.first N.those N.isAmong N.repeatsAfter N.namesIn N.namesOf N.used N.allAssigned N.allUsed L.listCounts L.listRepeats L.badDefaults L.listFaults B.labels B.taken B.misplacedFrom B.misnamed B.misfits B.missingFrom W.again W.unwiredAfter W.misfedBy W.misfed W.unmade D.badVersion D.documentCounts D.graphRepeats D.undeclared D.argumentFaults D.unmatched D.documentFaults A.listStages A.documentStages A.checked A.checkAnswer S.digitsBy S.digits S.spellExponent S.spellNumber S.holdsSingle S.quoteFor S.spellString Pieces.text Layout.pieces Layout.items Layout.moreItems Layout.leftPieces Layout.moreNames Layout.names Layout.moreArguments Layout.arguments Layout.paramsOf Layout.callPieces Layout.callsPieces Layout.document C.layoutOf C.writingStages C.written spellings respelt bytesOf writes
+one-text = refl

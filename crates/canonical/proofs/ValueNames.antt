@@ -1,0 +1,113 @@
+-- The names in the values of a plan: those in the tree that a value is read from.
+use mathlib.Core.Path.{_≡_, refl, ap₂, _∙_}
+use mathlib.Core.Bool.{Bool, true, false, cond, _&&_}
+use mathlib.Core.List.{List, [], _∷_, _++_}
+use mathlib.Core.Option.{Option, some}
+use Prim.Native.Nat.{ℕ}
+use lib.Dec.{eqb, leb}
+use Rattle.lexis.specs.Kind as Kind
+use Rattle.lexis.specs.Sizes.{maxExtent}
+use Rattle.lexis.specs.Number.{valueFrom}
+use Rattle.syntax.specs.Tree.{Value, Values, Ty, Tys}
+use Rattle.syntax.specs.Tree.Value.{name, literal, array, tuple}
+use Rattle.syntax.specs.Tree.Values.{none, more}
+use Rattle.syntax.specs.Tree.Ty.{tensor, extent, scalar, logical, string, arrayOf, tupleOf}
+use Rattle.syntax.specs.Tree.Tys.{no-type, a-type}
+use Rattle.rules.specs.Names.{namesIn, namesOf}
+use Rattle.rules.specs.Reading.{Val, Vals, vName, vNumber, vExtent, vString, vLogical, vArray, vTuple, no-val, a-val, where-true, nameAt, isNumber, contentOf, numberOf, truthOf, literalAt, bind, readAt, readAll, readEach}
+use Rattle.canonical.specs.Plan.{spellings}
+use Rattle.canonical.proofs.Planned.{nothing-some, bound, both}
+use Rattle.canonical.proofs.Spelt.{spellings-append}
+
+unfoldable mutual
+  pub valNames : Val → List (List ℕ)
+  valNames (vName w) = w ∷ []
+  valNames (vNumber n) = []
+  valNames (vExtent n) = []
+  valNames (vString s) = []
+  valNames (vLogical b) = []
+  valNames (vArray vs) = valsNames vs
+  valNames (vTuple vs) = valsNames vs
+
+  pub valsNames : Vals → List (List ℕ)
+  valsNames no-val = []
+  valsNames (a-val v vs) = valNames v ++ valsNames vs
+
+-- ---- leaves
+
+name-names : (u : Ty) (w : List ℕ) {v : Val} → nameAt u w ≡ some v → w ∷ [] ≡ valNames v
+unfolding valNames
+name-names tensor w {v} h = let e : vName w ≡ v = cc in rw (← e)
+name-names extent w h = nothing-some h
+name-names scalar w h = nothing-some h
+name-names logical w h = nothing-some h
+name-names string w h = nothing-some h
+name-names (arrayOf u) w h = nothing-some h
+name-names (tupleOf us) w h = nothing-some h
+
+-- a value without names, where it is given at all
+given-names : (b : Bool) (x : Val) {v : Val} → [] ≡ valNames x → where-true b x ≡ some v → [] ≡ valNames v
+given-names true x {v} n h = let e : x ≡ v = cc in rw e at n
+given-names false x n h = nothing-some h
+
+literal-names : (u : Ty) (k : ℕ) (w : List ℕ) {v : Val} → literalAt u k w ≡ some v → [] ≡ valNames v
+unfolding valNames
+literal-names tensor k w {v} h = go (eqb k Kind.truth) h
+  where
+    go : (b : Bool) → cond b (some (truthOf w)) (where-true (isNumber k) (numberOf w)) ≡ some v → [] ≡ valNames v
+    go true e = given-names true (truthOf w) refl e
+    go false e = given-names (isNumber k) (numberOf w) refl e
+literal-names extent k w h = given-names (eqb k Kind.whole && leb (valueFrom 0 w) maxExtent) (vExtent (valueFrom 0 w)) refl h
+literal-names scalar k w h = given-names (isNumber k) (numberOf w) refl h
+literal-names logical k w h = given-names (eqb k Kind.truth) (truthOf w) refl h
+literal-names string k w h = given-names (eqb k Kind.string) (vString (contentOf w)) refl h
+literal-names (arrayOf u) k w h = nothing-some h
+literal-names (tupleOf us) k w h = nothing-some h
+
+-- ---- trees
+
+-- an item and those after it
+more-names : (x : Value) (xs : Values) (o : Option Val) (os : Option Vals) {vs : Vals} → ((w : Val) → o ≡ some w → spellings (namesIn x) ≡ valNames w)
+    → ((ws : Vals) → os ≡ some ws → spellings (namesOf xs) ≡ valsNames ws) → bind o (λ w. bind os (λ ws. some (a-val w ws))) ≡ some vs
+    → spellings (namesOf (more x xs)) ≡ valsNames vs
+unfolding namesOf valsNames
+more-names x xs o os f g h =
+    let y = both o os a-val h in
+    rw (← y .made) (spellings-append (namesIn x) (namesOf xs) ∙ ap₂ (λ (v w : List (List ℕ)). v ++ w) (f (y .one) (y .one-there)) (g (y .two) (y .two-there)))
+
+mutual
+  unfolding namesIn namesOf valNames valsNames readAt readAll readEach
+
+  pub read-names : (x : Value) (u : Ty) {v : Val} → readAt x u ≡ some v → spellings (namesIn x) ≡ valNames v
+  read-names (name t) u h = name-names u (t .bytes) h
+  read-names (literal t) u h = literal-names u (t .kind) (t .bytes) h
+  read-names (array t xs) (arrayOf u) {v} h =
+      let r = bound (readAll xs u) (λ ws. some (vArray ws)) h in
+      let e : vArray (r .it) ≡ v = cc (r .gives) in
+      rw (← e) (all-names xs u (r .there))
+  read-names (array t xs) tensor h = nothing-some h
+  read-names (array t xs) extent h = nothing-some h
+  read-names (array t xs) scalar h = nothing-some h
+  read-names (array t xs) logical h = nothing-some h
+  read-names (array t xs) string h = nothing-some h
+  read-names (array t xs) (tupleOf us) h = nothing-some h
+  read-names (tuple t xs) (tupleOf us) {v} h =
+      let r = bound (readEach xs us) (λ ws. some (vTuple ws)) h in
+      let e : vTuple (r .it) ≡ v = cc (r .gives) in
+      rw (← e) (each-names xs us (r .there))
+  read-names (tuple t xs) tensor h = nothing-some h
+  read-names (tuple t xs) extent h = nothing-some h
+  read-names (tuple t xs) scalar h = nothing-some h
+  read-names (tuple t xs) logical h = nothing-some h
+  read-names (tuple t xs) string h = nothing-some h
+  read-names (tuple t xs) (arrayOf u) h = nothing-some h
+
+  all-names : (xs : Values) (u : Ty) {vs : Vals} → readAll xs u ≡ some vs → spellings (namesOf xs) ≡ valsNames vs
+  all-names none u {vs} h = let e : no-val ≡ vs = cc in rw (← e)
+  all-names (more x xs) u h = more-names x xs (readAt x u) (readAll xs u) (λ w e. read-names x u e) (λ ws e. all-names xs u e) h
+
+  each-names : (xs : Values) (us : Tys) {vs : Vals} → readEach xs us ≡ some vs → spellings (namesOf xs) ≡ valsNames vs
+  each-names none no-type {vs} h = let e : no-val ≡ vs = cc in rw (← e)
+  each-names none (a-type u us) h = nothing-some h
+  each-names (more x xs) no-type h = nothing-some h
+  each-names (more x xs) (a-type u us) h = more-names x xs (readAt x u) (readEach xs us) (λ w e. read-names x u e) (λ ws e. each-names xs us e) h

@@ -1,0 +1,90 @@
+-- The name, `=`, and the value that is bound or the default.
+use native.Mathlib.Omega.{arith}
+use Rattle.lexis.specs.Sizes.{maxBrackets}
+use Rattle.syntax.specs.Grammar.{both}
+use Rattle.rules.proofs.Items.{param-type}
+use Rattle.canonical.proofs.ArgumentPlaces.{found-at, found-none, bound-value, default-value}
+use Rattle.canonical.proofs.ArgumentPuts.{argument-put}
+use borrow.Author.Needs.{needs}
+use Rattle.canonical.proofs.argument.put_argument.Statement.{statement}
+use Rattle.canonical.proofs.argument.put_argument.Tie as tie
+
+put-token-requires : tie.Need-put-token-requires
+put-token-requires c κs = search needs
+
+slice-aggregate-put-word : tie.Need-slice-aggregate-put-word
+slice-aggregate-put-word c = search needs
+
+put-word-requires : tie.Need-put-word-requires
+put-word-requires c κs = search needs
+
+find-requires : tie.Need-find-requires
+find-requires c κs = search needs
+
+enum-known-found : tie.Need-enum-known-found
+enum-known-found c = search needs
+
+enum-told : tie.Need-enum-told
+enum-told c = search needs
+
+put-default-requires : tie.Need-put-default-requires
+put-default-requires c κs = search needs
+
+same-length : tie.Need-same-length
+same-length c = search needs
+
+returns : tie.Need-returns
+returns c =
+    let a = c .before .before .before .before .before .before .before .before .before .before .before .before .before .before .before .before .before .before .before .before .before .args in
+    λ xs us q ws w h g v.
+    let d = default-value q (found-none (c .before .before .before .before .before .before .find .ensures xs us q ws h g) (c .before .before .before .before .enum-told .given .1)) v in
+    argument-put (a .ltext .now) (a .ltable .now) (a .ln) (a .p) w g (c .before .before .before .before .before .before .before .before .before .before .before .before .before .before .put-token .ensures) (c .before .before .before .before .before .before .before .before .before .put-word .ensures) (c .before .before .put-default .ensures q ws (d .tree) w g (d .is) (d .reads))
+
+same-length-2 : tie.Need-same-length-2
+same-length-2 c = search needs
+
+returns-2 : tie.Need-returns-2
+returns-2 c = λ xs us q ws w h g v. absurd (omega (arith, found-at (c .before .before .before .before .find .ensures xs us q ws h g) (c .before .before .found .given .1) .within, c .if1 .taken))
+
+add-put-value : tie.Need-add-put-value
+add-put-value c =
+    let s = c .before .before .before .before .before .before .before .before .before .before .before .before .before .before .before .before .before .before .before .before in
+    let r = s .pre .1 .1 .0 .room in
+    let h = s .pre .1 .1 .1 .1 in
+    search needs
+
+put-value-requires : tie.Need-put-value-requires
+put-value-requires c κs =
+    let s = c .before .before .before .before .before .before .before .before .before .before .before .before .before .before .before .before .before .before .before .before in
+    (s .pre .0, (s .pre .1 .0, (s .pre .1 .1 .0, omega (arith, c .before .if1 .left))))
+
+same-length-3 : tie.Need-same-length-3
+same-length-3 c = search needs
+
+returns-3 : tie.Need-returns-3
+returns-3 c =
+    let a = c .before .before .before .before .before .before .before .before .before .before .before .before .before .before .before .before .before .before .before .before .before .before .before .args in
+    λ xs us q ws w h g v.
+    let f = found-at (c .before .before .before .before .before .before .before .before .find .ensures xs us q ws h g) (c .before .before .before .before .before .before .found .given .1) in
+    argument-put (a .ltext .now) (a .ltable .now) (a .ln) (a .p) w g (c .before .before .before .before .before .before .before .before .before .before .before .before .before .before .before .before .put-token .ensures) (c .before .before .before .before .before .before .before .before .before .before .before .put-word .ensures)
+    (c .before .before .put-value .ensures both maxBrackets (f .tree) (f .rest) maxBrackets (q .ty) _ w (f .reads) (param-type (a .ltext .now) (a .ltable .now) (a .ln) (a .p) g) (bound-value q (f .is) v))
+
+pub put-argument-spec : {M : Type 1} → statement M
+put-argument-spec =
+    tie.close
+    (tie.spec
+    put-token-requires
+    slice-aggregate-put-word
+    put-word-requires
+    find-requires
+    enum-known-found
+    enum-told
+    put-default-requires
+    same-length
+    returns
+    same-length-2
+    returns-2
+    add-put-value
+    put-value-requires
+    same-length-3
+    returns-3)

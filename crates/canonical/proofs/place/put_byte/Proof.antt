@@ -1,0 +1,25 @@
+-- Both ways the output is what storing the byte leaves.
+use mathlib.Core.Path.{ap, _∙_}
+use mathlib.Core.Logic.{⊎-elim}
+use lib.ListN.{length}
+use borrow.Author.Needs.{needs}
+use Rattle.canonical.proofs.Putting.{store-inside, store-beyond, store-length}
+use Rattle.canonical.proofs.place.put_byte.Statement.{statement}
+use Rattle.canonical.proofs.place.put_byte.Tie as tie
+
+slice-write-out : tie.Need-slice-write-out
+slice-write-out c = search needs
+
+next-byte-requires : tie.Need-next-byte-requires
+next-byte-requires c κs = search needs
+
+returns : tie.Need-returns
+returns c =
+    let s = c .before .before .before .args in
+    (c .next-byte .ensures, ⊎-elim (λ w. w .1 ∙ store-inside (s .out .now) (s .at) (s .b) (w .0 .taken)) (λ w. w .1 ∙ store-beyond (s .out .now) (s .at) (s .b) (w .0 .left)) (c .before .if1 .came))
+
+same-length : tie.Need-same-length
+same-length c = let s = c .before .before .before .args in ap length (returns c .1) ∙ store-length (s .out .now) (s .at) (s .b)
+
+pub put-byte-spec : {M : Type 1} → statement M
+put-byte-spec = tie.close (tie.spec slice-write-out next-byte-requires same-length returns)

@@ -1,0 +1,20 @@
+-- The bytes are stored, and one token more is counted.
+use borrow.Author.Needs.{needs}
+use Rattle.canonical.proofs.Putting.{puts-word}
+use Rattle.canonical.proofs.place.put_word.Statement.{statement}
+use Rattle.canonical.proofs.place.put_word.Tie as tie
+
+put-bytes-requires : tie.Need-put-bytes-requires
+put-bytes-requires c κs = search needs
+
+next-token-requires : tie.Need-next-token-requires
+next-token-requires c κs = search needs
+
+same-length : tie.Need-same-length
+same-length c = search needs
+
+returns : tie.Need-returns
+returns c = let p = c .before .before .before .put-bytes in puts-word _ (p .ensures .1) (p .ensures .0) (c .next-token .ensures)
+
+pub put-word-spec : {M : Type 1} → statement M
+put-word-spec = tie.close (tie.spec put-bytes-requires next-token-requires same-length returns)

@@ -1,0 +1,47 @@
+-- What demand 3 speaks of: documents with their plans, canonical texts within the limits, and what canon writes.
+use Prim.Native.Nat.{ℕ, _≤_}
+use mathlib.Core.Path.{_≡_}
+use mathlib.Core.List.{List}
+use mathlib.Core.Option.{some}
+use lib.ListN.{length, take}
+use Rattle.lexis.specs.Sizes.{maxText, maxTokens, workWords}
+use Rattle.lexis.specs.Answer.{answer}
+use Rattle.lexis.specs.declared.Answer.{Answer}
+use Rattle.syntax.specs.Tree.{Header, Document}
+use Rattle.rules.specs.Accepted.{AcceptedDocument}
+use Rattle.canonical.specs.Plan.{Plan, planOf}
+use Rattle.canonical.specs.Layout.{document, canonical}
+use Rattle.canonical.specs.Answer.{written, canonAnswer, outputAfter}
+
+-- a document that is accepted under these headers, and its plan
+pub record HasPlan (hs : List Header) (doc : List ℕ) (p : Plan) : Type 0 where
+  pub tree : Document
+  pub accepted : AcceptedDocument hs doc tree
+  pub planned : planOf hs tree ≡ some p
+
+-- the canonical text of a plan keeps the byte and token limits
+pub record Keeps (hs : List Header) (p : Plan) : Type 0 where
+  pub bytes : length (canonical hs p) ≤ maxText
+  pub tokens : length (document hs p) ≤ maxTokens
+
+-- a call of canon on a document: the lengths of the two work areas, and the output as it was before
+pub record Lent : Type 0 where
+  pub work₁ : ℕ
+  pub work₂ : ℕ
+  pub out : List ℕ
+
+-- the room that canon asks, and an output that holds these bytes
+pub record Serves (l : Lent) (bytes : List ℕ) : Type 0 where
+  pub first : workWords ≤ l .work₁
+  pub second : workWords ≤ l .work₂
+  pub holds : length bytes ≤ length (l .out)
+
+-- the four numbers, the output afterwards, and its first bytes, as many as the count says
+unfoldable pub numbers : List ℕ → List ℕ → Lent → Answer
+numbers list doc l = canonAnswer list doc (l .work₁) (l .work₂) (length (l .out))
+
+unfoldable pub output : List ℕ → List ℕ → Lent → List ℕ
+output list doc l = outputAfter (written list doc (l .work₁) (l .work₂) (length (l .out))) (l .out)
+
+unfoldable pub bytesWritten : List ℕ → List ℕ → Lent → List ℕ
+bytesWritten list doc l = take (numbers list doc l .detail) (output list doc l)

@@ -1,0 +1,9 @@
+-- The plan of a document and its canonical text, in the order in which to read them.
+pub mod Plan
+pub mod Spelling
+pub mod Pieces
+pub mod Layout
+pub mod Answer
+pub mod Demand
+-- What only the contracts of the code cite.
+pub mod Writing

@@ -1,0 +1,44 @@
+-- How canonical text spells numbers, strings and truth values.
+use Prim.Native.Nat.{ℕ, zero, suc, _+_, _/_, _%_}
+use mathlib.Core.Bool.{Bool, true, false, cond, _||_}
+use mathlib.Core.List.{List, [], _∷_, _++_}
+use lib.Dec.{eqb, ltb}
+use lib.IntN.{ℤ, pos, negsuc}
+use Rattle.lexis.specs.Ascii.{ascii, byte}
+use Rattle.lexis.specs.Number.{Reduced}
+
+-- the decimal digits of n, the most significant first, at most `fuel` + 1 of them
+unfoldable pub digitsBy : ℕ → ℕ → List ℕ
+digitsBy zero n = (byte "0" + n) ∷ []
+digitsBy (suc fuel) n = let r = digitsBy fuel (n / 10) in cond (ltb n 10) ((byte "0" + n) ∷ []) (r ++ ((byte "0" + n % 10) ∷ []))
+
+-- the plain digits of n without leading zeros; zero is `0`
+unfoldable pub digits : ℕ → List ℕ
+digits n = digitsBy n n
+
+-- an exponent: its digits, a minus before them where it is negative (`negsuc n` is the number -1 - n)
+unfoldable pub spellExponent : ℤ → List ℕ
+spellExponent (pos n) = digits n
+spellExponent (negsuc n) = byte "-" ∷ digits (suc n)
+
+-- a reduced number: mantissa, `e`, exponent
+unfoldable pub spellNumber : Reduced → List ℕ
+spellNumber r = digits (r .mantissa) ++ (byte "e" ∷ spellExponent (r .exponent))
+
+-- a string: in single quotes, or in double ones when its content holds a single one
+unfoldable pub holdsSingle : List ℕ → Bool
+holdsSingle [] = false
+holdsSingle (c ∷ s) = eqb c (byte "'") || holdsSingle s
+
+unfoldable pub quoteFor : List ℕ → ℕ
+quoteFor s = cond (holdsSingle s) (byte "\"") (byte "'")
+
+abbrev pub quoted : ℕ → List ℕ → List ℕ
+quoted q s = q ∷ (s ++ (q ∷ []))
+
+unfoldable pub spellString : List ℕ → List ℕ
+spellString s = quoted (quoteFor s) s
+
+abbrev pub spellTruth : Bool → List ℕ
+spellTruth true = ascii "true"
+spellTruth false = ascii "false"

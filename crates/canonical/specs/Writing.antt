@@ -1,0 +1,153 @@
+-- What only the contracts of the writing code cite: what storing bytes from a place of the output on leaves there, how far the place
+-- goes on, and that the pieces of a part were put. A place counts bytes and tokens no further than one beyond their limits; a byte
+-- beyond the output is counted and not stored.
+use Prim.Native.Nat.{ℕ, suc, _-_, _<_, _≤_}
+use mathlib.Core.Path.{_≡_}
+use mathlib.Core.Bool.{Bool, true, false, cond, _&&_}
+use mathlib.Core.List.{List, [], _∷_}
+use mathlib.Core.Option.{Option, some}
+use mathlib.Core.Option.{none as nothing}
+use lib.Dec.{eqb, leb, ltb}
+use lib.ListN.{length, set}
+use Rattle.lexis.specs.Ascii.{ascii}
+use Rattle.lexis.specs.Bytes.{among}
+use Rattle.lexis.specs.Sizes.{maxText, maxTokens, maxNumber, maxBrackets}
+use Rattle.lexis.specs.Words.{sameBytes}
+use Rattle.lexis.specs.Kind as Kind
+use Rattle.lexis.specs.Number.{partsOf, inRange}
+use Rattle.lexis.specs.Lexer.{Token}
+use Rattle.syntax.specs.Symbol.{symOf, leftRound, rightRound}
+use Rattle.syntax.specs.Tree.{Value, Values, Ty, Tys, Param, Arg}
+use Rattle.syntax.specs.Tree.Arg.{positional, named}
+use Rattle.syntax.specs.Grammar.{Leaves, names, both, Spells, Items}
+use Rattle.syntax.specs.Parser.{Parse, value}
+use Rattle.syntax.specs.Parser.Parse.{ok, bad}
+use Rattle.syntax.specs.Inner.{lookahead}
+use Rattle.syntax.specs.Table.{kindAt, tokenAt, toks}
+use Rattle.rules.specs.Reading.{Val, Vals, isNumber, nameAt, literalAt, readAt, readAll, readEach}
+use Rattle.lexis.specs.declared.Answer.{Answer}
+use Rattle.rules.specs.Answer.{Stage, andThen, counted, listStages, documentStages}
+use Rattle.canonical.specs.Answer.{layoutOf, writingStages, outputAfter}
+use Rattle.rules.specs.Fitting.{stacked, IsBase, Columns, InArray}
+use Rattle.canonical.specs.declared.place.Place.{Place}
+use Rattle.canonical.specs.declared.value.Put.{Put}
+use Rattle.canonical.specs.declared.argument.Bound.{Bound}
+use Rattle.canonical.specs.declared.argument.Bound.the-variants.{At, Missing}
+use Rattle.canonical.specs.Pieces.{Piece, text}
+use Rattle.canonical.specs.Layout.{mark, piece, aName, pieces, items}
+
+-- ---- bytes and tokens
+
+-- one byte more
+unfoldable pub nextByte : ℕ → ℕ
+nextByte at = cond (leb at maxText) (suc at) at
+
+unfoldable pub storeByte : List ℕ → ℕ → ℕ → List ℕ
+storeByte out at b = cond (ltb at (length out)) (set out at b) out
+
+-- all bytes of a list
+unfoldable pub passed : ℕ → List ℕ → ℕ
+passed at [] = at
+passed at (b ∷ bs) = passed (nextByte at) bs
+
+unfoldable pub stored : List ℕ → ℕ → List ℕ → List ℕ
+stored out at [] = out
+stored out at (b ∷ bs) = stored (storeByte out at b) (nextByte at) bs
+
+-- one token more; a token for each piece
+unfoldable pub nextToken : ℕ → ℕ
+nextToken n = cond (leb n maxTokens) (suc n) n
+
+unfoldable pub tallied : ℕ → List Piece → ℕ
+tallied n [] = n
+tallied n (p ∷ ps) = tallied (nextToken n) ps
+
+-- where pieces end that begin at a place
+unfoldable pub onward : Place → List Piece → Place
+onward s ps = record { bytes = passed (s .bytes) (text ps); tokens = tallied (s .tokens) ps }
+
+-- The pieces of a part were put into the output, from one place to another: whatever follows them goes on from there.
+pub record Puts (part : List Piece → List Piece) (out out' : List ℕ) (s s' : Place) : Type 0 where
+  pub bytes : (r : List Piece) → stored out (s .bytes) (text (part r)) ≡ stored out' (s' .bytes) (text r)
+  pub place : (r : List Piece) → onward s (part r) ≡ onward s' r
+
+-- one piece of these bytes, whatever its kind
+abbrev pub PutsWord : List ℕ → List ℕ → List ℕ → Place → Place → Type 0
+PutsWord w out out' s s' = (k : ℕ) → Puts (λ r. piece k w ∷ r) out out' s s'
+
+-- all of these pieces were put from the first byte on
+pub record Written (ps : List Piece) (out out' : List ℕ) (s : Place) : Type 0 where
+  pub bytes : out' ≡ stored out 0 (text ps)
+  pub place : s ≡ onward (record { bytes = 0; tokens = 0 }) ps
+
+-- ---- values
+
+-- every number of a table is in range and not too long, as the lexer has it
+pub record Ranged (text table : List ℕ) (n : ℕ) : Type 0 where
+  pub within : (i : ℕ) → i < n → isNumber (kindAt table i) ≡ true
+      → (inRange (tokenAt text table i .bytes) (partsOf (tokenAt text table i .bytes)) ≡ true) × (length (tokenAt text table i .bytes) ≤ maxNumber)
+
+-- the value of a leaf at a type
+abbrev pub leafAt : Ty → Token → Option Val
+leafAt u t = cond (eqb (t .kind) Kind.name) (nameAt u (t .bytes)) (literalAt u (t .kind) (t .bytes))
+
+-- the value at place i, read at the base that begins ts under k pairs, was put; it ends before place r .next
+abbrev pub PutsValue : List ℕ → List ℕ → ℕ → ℕ → List Token → ℕ → List ℕ → List ℕ → Place → Put → Type 0
+PutsValue text table n i ts k out out' s r =
+    (m : Leaves) (b : ℕ) (v : Value) (us : List Token) (c : ℕ) (u : Ty) (ws : List Token) (w : Val) → Spells m b (toks text table n i) v us → IsBase c ts u ws → readAt v (stacked k u) ≡ some w
+    → Puts (pieces w) out out' s (r .place) × (us ≡ toks text table n (r .next))
+
+-- the items of an array from place i on, and its closing bracket
+abbrev pub PutsArray : List ℕ → List ℕ → ℕ → ℕ → List Token → ℕ → List ℕ → List ℕ → Place → Put → Type 0
+PutsArray text table n i ts k out out' s r =
+    (m : Leaves) (b : ℕ) (vs : Values) (us : List Token) (c : ℕ) (u : Ty) (xs : List Token) (ws : Vals) → InArray m b (toks text table n i) vs us → IsBase c ts u xs → readAll vs (stacked k u) ≡ some ws
+    → Puts (λ r. items ws (mark (ascii "]") ∷ r)) out out' s (r .place) × (us ≡ toks text table n (r .next))
+
+-- the items of a tuple from place i on, and its closing bracket
+abbrev pub PutsTuple : List ℕ → List ℕ → ℕ → ℕ → List Token → List ℕ → List ℕ → Place → Put → Type 0
+PutsTuple text table n i ts out out' s r =
+    (m : Leaves) (b : ℕ) (vs : Values) (us : List Token) (c : ℕ) (cs : Tys) (xs : List Token) (ws : Vals) → Items m rightRound b (toks text table n i) vs us → Columns 0 c ts cs xs → readEach vs cs ≡ some ws
+    → Puts (λ r. items ws (mark (ascii ")") ∷ r)) out out' s (r .place) × (us ≡ toks text table n (r .next))
+
+-- ---- patterns
+
+-- the tokens of a left side: a bracket or a comma by its one byte, a name by its spelling
+unfoldable pub patternPiece : Token → Piece
+patternPiece t = cond (among (ascii ",[]()") (symOf t)) (mark (symOf t ∷ [])) (aName (t .bytes))
+
+unfoldable pub patternPieces : List Token → List Piece → List Piece
+patternPieces [] r = r
+patternPieces (t ∷ ts) r = patternPiece t ∷ patternPieces ts r
+
+-- one value that begins with a round bracket stands from place i up to place `equal`
+abbrev pub endsAt : ℕ → ℕ → Parse Value → Bool
+endsAt n j (ok v us) = eqb (n - length us) j
+endsAt n j (bad c us) = false
+
+unfoldable pub isBracketed : List ℕ → List ℕ → ℕ → ℕ → ℕ → Bool
+isBracketed text table n i equal = eqb (lookahead (toks text table n i)) leftRound && endsAt n equal (value names maxBrackets (toks text table n i))
+
+-- ---- arguments
+
+-- the value for the parameter p, number k, of these arguments, the first of them being number j: the positional one of its number, or
+-- the first one of its name
+unfoldable pub argumentFor : ℕ → ℕ → Param → List Arg → Option Value
+argumentFor j k p [] = nothing
+argumentFor j k p (positional v ∷ xs) = let r = argumentFor (suc j) k p xs in cond (eqb j k) (some v) r
+argumentFor j k p (named t v ∷ xs) = let r = argumentFor (suc j) k p xs in cond (sameBytes (p .name .bytes) (t .bytes)) (some v) r
+
+-- the value, where there is one, is read from a place of the table
+pub data Finds (text table : List ℕ) (n : ℕ) : Option Value → Bound → Type 0 where
+  there : {v : Value} {i : ℕ} {us : List Token} → i ≤ n → value both maxBrackets (toks text table n i) ≡ ok v us → Finds text table n (some v) (At i)
+  nowhere : Finds text table n nothing Missing
+
+-- ---- canon
+
+-- the stages of canon after its guards
+unfoldable pub textStages : List ℕ → List ℕ → ℕ → Stage (List ℕ)
+textStages list doc out = andThen (listStages list) (λ hs. andThen (documentStages hs doc) (λ d. writingStages (layoutOf hs d) out))
+
+-- the answer and the output after these stages
+pub record Wrote (s : Stage (List ℕ)) (out out' : List ℕ) (r : Answer) : Type 0 where
+  pub answered : r ≡ counted s length
+  pub output : out' ≡ outputAfter s out
