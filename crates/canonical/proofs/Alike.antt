@@ -1,20 +1,18 @@
 -- A document with a plan, and the tree of the plan's canonical text: they name the same inputs and outputs, and call by call the same
 -- operations and the same identifiers on the left; and the tree uses no more names than the document.
-use mathlib.Core.Path.{_≡_, refl, sym, ap, ap₂, _∙_}
-use mathlib.Core.Bool.{cond}
+use mathlib.Core.Path.{_≡_, refl, sym, ap, _∙_}
 use mathlib.Core.List.{List, [], _∷_, flatMap}
-use mathlib.Core.Option.{Option, some}
+use mathlib.Core.Option.{some}
 use Prim.Native.Nat.{ℕ, suc}
 use lib.ListN.{length}
-use Rattle.lexis.specs.Words.{sameBytes}
 use Rattle.lexis.specs.Lexer.{Token}
 use Rattle.syntax.specs.Tree.{Header, Call, Document}
 use Rattle.syntax.specs.Grammar.{IsList}
 use Rattle.rules.specs.Names.{assigned, used, allAssigned, allUsed}
 use Rattle.rules.specs.Reading.{resultType}
-use Rattle.rules.specs.DocumentRules.{find}
 use Rattle.canonical.specs.Plan.{PlanCall, Plan, spellings, planOf}
 use Rattle.canonical.proofs.Shape.{CanonCall, CanonCalls, no-calls, a-call, CanonDocument}
+use Rattle.canonical.proofs.Found.{find-same}
 use Rattle.canonical.proofs.Planned.{Planned, AllPlanned, none-planned, more-planned, planned-document}
 use Rattle.canonical.proofs.Spelt.{append-same, Within, equal-within, append-within}
 use Rattle.canonical.proofs.ValueNames.{read-names}
@@ -31,11 +29,6 @@ pub record CallAlike (c t : Call) : Type 0 where
 pub data Alike : List Call → List Call → Type 0 where
   none-alike : Alike [] []
   more-alike : {c t : Call} {cs ts : List Call} → CallAlike c t → Alike cs ts → Alike (c ∷ cs) (t ∷ ts)
-
-find-same : (hs : List Header) (s t : Token) → s .bytes ≡ t .bytes → find hs s ≡ find hs t
-unfolding find
-find-same [] s t e = refl
-find-same (h ∷ hs) s t e = ap₂ (λ (w : List ℕ) (r : Option Header). cond (sameBytes (h .name .bytes) w) (some h) r) e (find-same hs s t e)
 
 call-alike : {b : ℕ} {list : List Token} {hs : List Header} {c t : Call} {p : PlanCall} → IsList b list hs → Planned hs c p → CanonCall hs p t → CallAlike c t
 unfolding used

@@ -5,12 +5,11 @@ use mathlib.Core.Bool.{Bool, true, false, cond, not, true≢false}
 use mathlib.Core.List.{List, [], _∷_}
 use mathlib.Core.Option.{Option, some}
 use mathlib.Core.Option.{none as nothing}
-use Prim.Native.Nat.{ℕ, suc, _+_, _-_, _≤_}
+use Prim.Native.Nat.{ℕ, suc, _+_, _≤_}
 use native.Mathlib.Omega.{arith}
 use native.Mathlib.Numerals.{add-one}
 use borrow.Author.Tests.{eq-eqb, ne-eqb}
 use lib.Dec.{eqb}
-use lib.ListN.{length}
 use Rattle.lexis.specs.Sizes.{maxBrackets}
 use Rattle.lexis.specs.Words.{sameBytes}
 use Rattle.lexis.specs.Lexer.{Token}
@@ -24,9 +23,8 @@ use Rattle.syntax.specs.Parser.{Reader, mapped, begins, rest, row, plain, comma
 use Rattle.syntax.specs.Parser.Parse.{ok}
 use Rattle.syntax.specs.Table.{tokenAt, toks, parsed}
 use Rattle.syntax.specs.Inner.{lookahead, isLabel}
-use Rattle.syntax.proofs.Tails.{Takes, Tails, type-tails}
-use Rattle.syntax.proofs.Tails.Takes.{took}
-use Rattle.syntax.proofs.Table.{toks-rest, toks-suffix}
+use Rattle.syntax.proofs.Tails.{type-tails}
+use Rattle.syntax.proofs.Table.{toks-rest}
 use Rattle.syntax.proofs.Row.{Shrinks}
 use Rattle.syntax.proofs.Shrinks.{argument-shrinks}
 use Rattle.rules.specs.declared.parameter.Next.the-variants.{Item, End}
@@ -37,7 +35,7 @@ use Rattle.rules.specs.Arguments.GoesOn.{more, last}
 use Rattle.rules.proofs.RowParses.{mapped-ok, Rowed, row-ok, param-ok}
 use Rattle.rules.proofs.RowParses.Rowed.{next}
 use Rattle.rules.proofs.RowParses.Rowed.{last as row-last}
-use Rattle.rules.proofs.Items.{clash, param-name, param-type, required-is}
+use Rattle.rules.proofs.Items.{left-at, clash, param-name, param-type, required-is}
 use Rattle.rules.proofs.ArgumentCalls.{value-starts, with-label, without-label}
 use Rattle.canonical.specs.Plan.{valueFor}
 use Rattle.canonical.specs.declared.argument.Bound.{Bound}
@@ -181,17 +179,6 @@ module _ (dtext dtable : List ℕ) (dn args : ℕ) (ltext ltable : List ℕ) (ln
           go s (more {ys = zs} e a t) = record { left = zs; reads = t; same = s ∙ ap (argumentFor j k q) e ∙ passed zs a g ∙ ap (λ (y : ℕ). argumentFor y k q zs) (sym (add-one j)) }
 
 -- ---- the default
-
--- what a reader leaves are the tokens from the place that it has reached
-left-at : {A : Type 0} {item : Reader A} → Tails item → (text table : List ℕ) (e n i : ℕ) {a : A} {us : List Token} {x : Parsed} {j : ℕ}
-    → x ≡ parsed e n (item (toks text table n i)) → x ≡ Done j → item (toks text table n i) ≡ ok a us → us ≡ toks text table n j
-left-at {A} tails text table e n i {a} {us} {j = j} first reached h =
-    let z = sym reached ∙ (first ∙ ap (parsed e n) h) in
-    let d : j ≡ n - length us = cc in
-    go (rw h at (tails (toks text table n i))) d
-  where
-    go : Takes {A = A} (toks text table n i) (ok a us) → j ≡ n - length us → us ≡ toks text table n j
-    go (took s) d = toks-suffix text table n i s ∙ ap (λ (k : ℕ). toks text table n k) (sym d)
 
 -- a default that is there is read behind its `=`
 default-read : (b : ℕ) (ts : List Token) {v : Value} {us : List Token} → default b ts ≡ ok (some v) us → value literals b (rest ts) ≡ ok v us

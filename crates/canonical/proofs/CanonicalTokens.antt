@@ -3,7 +3,6 @@
 use mathlib.Core.Path.{_≡_, refl, sym, ap, _∙_}
 use mathlib.Core.Bool.{Bool, true, false, cond}
 use mathlib.Core.List.{List, [], _∷_}
-use mathlib.Core.Option.{some}
 use Prim.Native.Nat.{ℕ, _≤_}
 use native.Mathlib.Omega.{arith}
 use lib.Dec.{eqb, leb}
@@ -19,12 +18,11 @@ use Rattle.lexis.specs.Number.{Reduced}
 use Rattle.lexis.specs.Lexer.{Token, accepted, lex}
 use Rattle.syntax.specs.Tree.{Ty, Tys, Param, Header}
 use Rattle.syntax.specs.Grammar.{Leaves, both}
-use Rattle.rules.specs.DocumentRules.{find}
 use Rattle.rules.specs.Reading.{Val, Vals}
 use Rattle.canonical.specs.Plan.{Plan, PlanCall}
 use Rattle.canonical.specs.Spelling.{digits, spellNumber, holdsSingle, quoteFor, spellString, spellTruth}
 use Rattle.canonical.specs.Pieces.{Piece, text, tokensAt}
-use Rattle.canonical.specs.Layout.{piece, spaced, aName, mark, pieces, items, moreItems, leftPieces, moreNames, names, argument, moreArguments, arguments, paramsOf, callPieces, callsPieces, document, canonical}
+use Rattle.canonical.specs.Layout.{piece, spaced, aName, mark, pieces, items, moreItems, leftPieces, moreNames, names, argument, moreArguments, arguments, callPieces, callsPieces, document, canonical}
 use Rattle.canonical.proofs.Fit.{All, none, more, IsWord, IsName, IsNumber, IsText, Fits, fit-name, fit-number, fit-scalar, fit-extent, fit-string, fit-logical, fit-truth, fit-array, fit-tuple, FitsAll, all-none, all-more, FitsEach, each-none, each-more, LeftFits, alone, several, FitsParams, no-param, a-param, CallFits, CallsFit, one-call, more-calls, NamesFit, one-name, more-names, PlanFits}
 use Rattle.canonical.proofs.Found.{params-found}
 use Rattle.canonical.proofs.Runs.{next, span-all, differs}

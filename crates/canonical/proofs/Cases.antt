@@ -3,8 +3,8 @@
 use Prim.Native.Nat.{ℕ}
 use Prim.Native.String.{String}
 use mathlib.Core.Path.{_≡_, refl}
-use mathlib.Core.Bool.{Bool, true, false, cond, _&&_, _||_}
-use mathlib.Core.List.{List, [], _∷_, _++_, map, flatMap, flatten}
+use mathlib.Core.Bool.{Bool, true, false}
+use mathlib.Core.List.{List, [], _∷_, map, flatMap, flatten}
 use lib.IntN.{ℤ, pos}
 use Rattle.lexis.specs.Sizes.{maxBrackets, workWords, callWords, wireWords}
 use Rattle.lexis.specs.Ascii.{ascii}

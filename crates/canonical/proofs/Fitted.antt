@@ -3,8 +3,7 @@
 use mathlib.Core.Path.{_≡_, refl}
 use mathlib.Core.Bool.{Bool, true, false, cond, _&&_, and-eq-true-iff}
 use mathlib.Core.List.{List, _∷_}
-use mathlib.Core.Option.{Option, some}
-use mathlib.Core.Option.{none as nothing}
+use mathlib.Core.Option.{some}
 use Prim.Native.Nat.{ℕ, zero, suc, _≤_}
 use native.Mathlib.Nat.{le-of-suc-le-suc, not-suc-le-zero}
 use lib.Dec.{eqb, leb}
@@ -23,6 +22,7 @@ use Rattle.syntax.specs.Grammar.{Leaves, takesNames, takesLiterals, Spells, a-n
 use Rattle.rules.specs.Reading.{Val, Vals, vName, vExtent, vString, vArray, vTuple, no-val, a-val, where-true, isNumber, contentOf, numberOf, truthOf, nameAt, literalAt, bind, readAt, readAll, readEach}
 use Rattle.rules.proofs.Items.{clash}
 use Rattle.canonical.proofs.Fit.{Lowest, nought, odd, IsName, IsNumber, Fits, fit-name, fit-number, fit-scalar, fit-extent, fit-string, fit-logical, fit-truth, fit-array, fit-tuple, FitsAll, all-none, all-more, FitsEach, each-none, each-more}
+use Rattle.canonical.proofs.Planned.{bound}
 use Rattle.canonical.proofs.Good.{Good, good-name, AllGood}
 
 -- ---- numbers
@@ -71,11 +71,6 @@ module _ {m : Leaves} {b : ℕ} where
 
 -- ---- arrays and tuples
 
--- what was bound to something was something
-pub bound : {A B : Type 0} (o : Option A) (k : A → Option B) (y : B) → bind o k ≡ some y → (x : A) × (o ≡ some x) × (k x ≡ some y)
-bound nothing k y h = clash cc
-bound (some x) k y h = (x, refl, h)
-
 -- whatever a tree reads as fits
 abbrev pub Reads : Leaves → ℕ → Value → Type 0
 Reads m b v = (u : Ty) (w : Val) → readAt v u ≡ some w → Fits m b u w
@@ -94,9 +89,9 @@ module _ {m : Leaves} {b : ℕ} where
       → readAt (array t vs) u ≡ some w → Fits m (suc b) u w
   unfolding readAt
   array-fits t vs (arrayOf u) w f h =
-      let x = bound (readAll vs u) (λ ws. some (vArray ws)) w h in
-      let e : vArray (x .0) ≡ w = cc (x .2) in
-      let r : Fits m (suc b) (arrayOf u) (vArray (x .0)) = fit-array (f u (x .0) (x .1)) in
+      let x = bound (readAll vs u) (λ ws. some (vArray ws)) h in
+      let e : vArray (x .it) ≡ w = cc (x .gives) in
+      let r : Fits m (suc b) (arrayOf u) (vArray (x .it)) = fit-array (f u (x .it) (x .there)) in
       rw e at r
   array-fits t vs tensor w f h = clash cc
   array-fits t vs extent w f h = clash cc
@@ -113,10 +108,10 @@ module _ {m : Leaves} {b : ℕ} where
       → readAll (more v vs) u ≡ some ws → FitsAll m b u ws
   unfolding readAll
   more-all v vs u ws f g h =
-      let x = bound (readAt v u) (λ w. bind (readAll vs u) (λ xs. some (a-val w xs))) ws h in
-      let y = bound (readAll vs u) (λ xs. some (a-val (x .0) xs)) ws (x .2) in
-      let e : a-val (x .0) (y .0) ≡ ws = cc (y .2) in
-      let r : FitsAll m b u (a-val (x .0) (y .0)) = all-more (f u (x .0) (x .1)) (g (y .0) (y .1)) in
+      let x = bound (readAt v u) (λ w. bind (readAll vs u) (λ xs. some (a-val w xs))) h in
+      let y = bound (readAll vs u) (λ xs. some (a-val (x .it) xs)) (x .gives) in
+      let e : a-val (x .it) (y .it) ≡ ws = cc (y .gives) in
+      let r : FitsAll m b u (a-val (x .it) (y .it)) = all-more (f u (x .it) (x .there)) (g (y .it) (y .there)) in
       rw e at r
 
   none-each : (us : Tys) (ws : Vals) → readEach none us ≡ some ws → FitsEach m b us ws
@@ -129,10 +124,10 @@ module _ {m : Leaves} {b : ℕ} where
   unfolding readEach
   more-each R v vs no-type ws f g h = clash cc
   more-each R v vs (a-type u us) ws f g h =
-      let x = bound (readAt v u) (λ w. bind (readEach vs us) (λ xs. some (a-val w xs))) ws h in
-      let y = bound (readEach vs us) (λ xs. some (a-val (x .0) xs)) ws (x .2) in
-      let e : a-val (x .0) (y .0) ≡ ws = cc (y .2) in
-      let r : First m b R (a-type u us) (a-val (x .0) (y .0)) = first (f u (x .0) (x .1)) (g us (y .0) (y .1)) in
+      let x = bound (readAt v u) (λ w. bind (readEach vs us) (λ xs. some (a-val w xs))) h in
+      let y = bound (readEach vs us) (λ xs. some (a-val (x .it) xs)) (x .gives) in
+      let e : a-val (x .it) (y .it) ≡ ws = cc (y .gives) in
+      let r : First m b R (a-type u us) (a-val (x .it) (y .it)) = first (f u (x .it) (x .there)) (g us (y .it) (y .there)) in
       rw e at r
 
   two-fit : {us : Tys} {ws : Vals} → First m b (First m b (FitsEach m b)) us ws → Pair m b (tupleOf us) (vTuple ws)
@@ -145,9 +140,9 @@ module _ {m : Leaves} {b : ℕ} where
       → ((xs : Tys) (ys : Vals) → readEach vs xs ≡ some ys → First m b (FitsEach m b) xs ys) → readAt (tuple t (more v vs)) u ≡ some w → Pair m b u w
   unfolding readAt
   tuple-fits t v vs (tupleOf us) w f g h =
-      let x = bound (readEach (more v vs) us) (λ ws. some (vTuple ws)) w h in
-      let e : vTuple (x .0) ≡ w = cc (x .2) in
-      rw e at (two-fit (more-each (First m b (FitsEach m b)) v vs us (x .0) f g (x .1)))
+      let x = bound (readEach (more v vs) us) (λ ws. some (vTuple ws)) h in
+      let e : vTuple (x .it) ≡ w = cc (x .gives) in
+      rw e at (two-fit (more-each (First m b (FitsEach m b)) v vs us (x .it) f g (x .there)))
   tuple-fits t v vs tensor w f g h = clash cc
   tuple-fits t v vs extent w f g h = clash cc
   tuple-fits t v vs scalar w f g h = clash cc

@@ -1,8 +1,9 @@
--- The look-up of operations: the layout finds an operation's parameters as the rules find its header.
-use mathlib.Core.Path.{_≡_}
+-- The look-up of operations: it depends on the bytes of the name alone, and the layout finds an operation's parameters as the rules find
+-- its header.
+use mathlib.Core.Path.{_≡_, refl, ap₂}
 use mathlib.Core.Bool.{Bool, true, false, cond}
 use mathlib.Core.List.{List, [], _∷_}
-use mathlib.Core.Option.{some}
+use mathlib.Core.Option.{Option, some}
 use Prim.Native.Nat.{ℕ}
 use native.Mathlib.Omega.{arith}
 use Rattle.lexis.specs.Words.{sameBytes}
@@ -10,6 +11,11 @@ use Rattle.lexis.specs.Lexer.{Token}
 use Rattle.syntax.specs.Tree.{Header}
 use Rattle.rules.specs.DocumentRules.{find}
 use Rattle.canonical.specs.Layout.{paramsOf}
+
+pub find-same : (hs : List Header) (s t : Token) → s .bytes ≡ t .bytes → find hs s ≡ find hs t
+unfolding find
+find-same [] s t e = refl
+find-same (h ∷ hs) s t e = ap₂ (λ (w : List ℕ) (r : Option Header). cond (sameBytes (h .name .bytes) w) (some h) r) e (find-same hs s t e)
 
 pub params-found : (hs : List Header) (t : Token) {h : Header} → find hs t ≡ some h → paramsOf hs (t .bytes) ≡ h .params
 unfolding find paramsOf

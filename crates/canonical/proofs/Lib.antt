@@ -44,3 +44,7 @@ pub mod ArgumentPlaces
 pub mod ArgumentPuts
 pub mod NameRows
 pub mod Patterns
+-- Calls, the document, canon.
+pub mod Titles
+pub mod CallWrites
+pub mod CanonStages

@@ -6,7 +6,6 @@ use mathlib.Core.List.{List, [], _∷_, _++_, flatMap, flatten, append-assoc}
 use mathlib.Core.Option.{Option, some}
 use mathlib.Core.Option.{none as nothing}
 use Prim.Native.Nat.{ℕ, suc}
-use borrow.Author.Tests.{eq-eqb}
 use Rattle.lexis.specs.Lexer.{Token}
 use Rattle.lexis.specs.Words.{sameBytes}
 use Rattle.syntax.specs.Tree.{Value, Ty, Param, Arg}
@@ -16,7 +15,7 @@ use Rattle.rules.specs.ListRules.{paramNames}
 use Rattle.rules.specs.Binding.{Slot, leading, labels, byName, orElse, slotsFrom, slots, later, taken, misplacedFrom, misnamed, misfit, misfits, missingFrom}
 use Rattle.rules.specs.Wiring.{strangers}
 use Rattle.rules.proofs.Lookups.{among-append}
-use Rattle.rules.proofs.Sought.{same-sym}
+use Rattle.rules.proofs.Sought.{same-self, same-sym}
 use Rattle.canonical.specs.Plan.{valueFor, valuesFor, spellings}
 use Rattle.canonical.proofs.Shape.{Named, no-arg, an-arg}
 use Rattle.canonical.proofs.Planned.{nothing-some, both}
@@ -44,11 +43,6 @@ values-bound place k (s ∷ ss) h =
     (simp (slot-fits u (s .value) (s .param .default) (x .one-there), r .0), simp (slot-given u (s .value) (s .param .default) (x .one-there), r .1))
 
 -- ---- the slots of named arguments
-
-same-self : (a : List ℕ) → sameBytes a a ≡ true
-unfolding sameBytes
-same-self [] = refl
-same-self (x ∷ a) = simp (eq-eqb x x refl, same-self a)
 
 or-neither : (a b : Bool) → (a || b) ≡ false → (a ≡ false) × (b ≡ false)
 or-neither true b h = absurd (true≢false h)

@@ -29,7 +29,7 @@ use Rattle.canonical.proofs.Good.{Each}
 -- ---- lists without faults
 
 -- no fault in a row is none in each part
-row-none : (xss : List (List Fault)) → flatten xss ≡ [] → Each (λ (xs : List Fault). xs ≡ []) xss
+pub row-none : (xss : List (List Fault)) → flatten xss ≡ [] → Each (λ (xs : List Fault). xs ≡ []) xss
 unfolding flatten
 row-none [] h = tt
 row-none (xs ∷ xss) h = let e = append-eq-nil-iff {p = xs} {q = flatten xss} .0 h in (e .0, row-none xss (e .1))

@@ -1,6 +1,6 @@
 -- The plan of an accepted document under an accepted operation list fits. In order: rows; types; headers; what a parameter is bound to;
 -- left sides; calls; the document. Each law about a phrase says what its tree has, and that the tokens after it are good.
-use mathlib.Core.Path.{_≡_, refl, ap, ap₂, _∙_}
+use mathlib.Core.Path.{_≡_, refl, ap, _∙_}
 use mathlib.Core.Bool.{Bool, true, false, cond}
 use mathlib.Core.List.{List, [], _∷_}
 use mathlib.Core.Option.{Option, some}
@@ -30,8 +30,10 @@ use Rattle.canonical.specs.Plan.{Plan, PlanCall, spellings, valueFor, va
 use Rattle.canonical.specs.Layout.{leftPieces}
 use Rattle.canonical.proofs.Fit.{IsName, Fits, fit-name, fit-number, fit-scalar, fit-extent, fit-string, fit-logical, fit-truth, fit-array, fit-tuple, LeftFits, alone, several, FitsParams, no-param, a-param, CallFits, CallsFit, one-call, more-calls, NamesFit, one-name, more-names, PlanFits}
 use Rattle.canonical.proofs.Good.{Each, good-name, AllGood, lex-good}
+use Rattle.canonical.proofs.Planned.{bound}
+use Rattle.canonical.proofs.Found.{find-same}
 use Rattle.canonical.proofs.PlanExists.{find-each, found-clean}
-use Rattle.canonical.proofs.Fitted.{bound, Reads, Pair, pair, spells-rest, items-rest, spells-fits, tuple-pair, wider, each-wider}
+use Rattle.canonical.proofs.Fitted.{Reads, Pair, pair, spells-rest, items-rest, spells-fits, tuple-pair, wider, each-wider}
 
 -- ---- rows
 
@@ -157,13 +159,13 @@ values-fit {b} [] vs xs ws gs fs ys h = let e : [] ≡ ws = cc in let r : FitsPa
 values-fit {b} (p ∷ ps) vs xs ws gs fs ys h =
     let o = orElse (byPlace p vs) (byName (p .name) xs) in
     let ss = slotsFrom ps (later vs) xs in
-    let x = bound (bind (orElse o (p .default)) (λ v. readAt v (p .ty))) (λ v. bind (valuesFor ss) (λ vs. some (v ∷ vs))) ws h in
-    let y = bound (valuesFor ss) (λ vs. some (x .0 ∷ vs)) ws (x .2) in
-    let e : x .0 ∷ y .0 ≡ ws = cc (y .2) in
+    let x = bound (bind (orElse o (p .default)) (λ v. readAt v (p .ty))) (λ v. bind (valuesFor ss) (λ vs. some (v ∷ vs))) h in
+    let y = bound (valuesFor ss) (λ vs. some (x .it ∷ vs)) (x .gives) in
+    let e : x .it ∷ y .it ≡ ws = cc (y .gives) in
     let P = Reads both b in
     let k = or-else P o (p .default) (or-else P (byPlace p vs) (byName (p .name) xs) (by-place P p vs fs) (by-name P (p .name) xs ys)) (gs .0 .default) in
-    let r : FitsParams b (p ∷ ps) (x .0 ∷ y .0) =
-    a-param (gs .0 .name) (value-fits (orElse o (p .default)) (p .ty) (x .0) k (x .1)) (values-fit ps (later vs) xs (y .0) (gs .1) (all-later P vs fs) ys (y .1)) in
+    let r : FitsParams b (p ∷ ps) (x .it ∷ y .it) =
+    a-param (gs .0 .name) (value-fits (orElse o (p .default)) (p .ty) (x .it) k (x .there)) (values-fit ps (later vs) xs (y .it) (gs .1) (all-later P vs fs) ys (y .there)) in
     rw e at r
 
 -- ---- left sides
@@ -216,55 +218,49 @@ call-good {b} (G.a-call {n} l s o xs e) g =
     let y = row-good (λ (x : Arg). Reads both b (valueOf x)) (λ ts x us. arg-good) xs (x .1 .1 .1) in
     (record { left = x .0; name = good-name n (x .1 .0) s; args = y .0 }, end-rest e (y .1))
 
--- an operation is found by the bytes of its name
-find-bytes : (hs : List Header) (s t : Token) → s .bytes ≡ t .bytes → find hs s ≡ find hs t
-unfolding find
-find-bytes [] s t e = refl
-find-bytes (h ∷ hs) s t e = ap₂ (λ (w : List ℕ) (r : Option Header). cond (sameBytes (h .name .bytes) w) (some h) r) e (find-bytes hs s t e)
-
 module _ (hs : List Header) (good : Each (GoodHeader maxBrackets) hs) (lawful : listFaults hs ≡ []) where
   call-fits : (c : Call) (p : PlanCall) → GoodCall maxBrackets c → planCall hs c ≡ some p → CallFits hs p
   unfolding planCall first
   call-fits c p g e =
-      let x = bound (find hs (c .op)) _ p e in
-      let h = x .0 in
-      let y = bound (readAt (c .left) (resultType (h .results))) _ p (x .2) in
-      let z = bound (valuesFor (slots (h .params) (c .args))) _ p (y .2) in
-      let k = find-each (GoodHeader maxBrackets) hs (c .op) h good (x .1) in
-      let q : record { op = c .op .bytes; left = y .0; values = z .0 } ≡ p = cc (z .2) in
-      let r : CallFits hs (record { op = c .op .bytes; left = y .0; values = z .0 }) = record {
+      let x = bound (find hs (c .op)) _ e in
+      let h = x .it in
+      let y = bound (readAt (c .left) (resultType (h .results))) _ (x .gives) in
+      let z = bound (valuesFor (slots (h .params) (c .args))) _ (y .gives) in
+      let k = find-each (GoodHeader maxBrackets) hs (c .op) h good (x .there) in
+      let q : record { op = c .op .bytes; left = y .it; values = z .it } ≡ p = cc (z .gives) in
+      let r : CallFits hs (record { op = c .op .bytes; left = y .it; values = z .it }) = record {
         header = h;
-        found = λ t s. find-bytes hs t (c .op) s ∙ x .1;
+        found = λ t s. find-same hs t (c .op) s ∙ x .there;
         name = g .name;
-        left = g .left (resultType (h .results)) (y .0) (y .1);
-        values = values-fit (h .params) (leading (c .args)) (c .args) (z .0) (k .params) (all-leading (Reads both maxBrackets) (c .args) (g .args)) (g .args) (z .1);
+        left = g .left (resultType (h .results)) (y .it) (y .there);
+        values = values-fit (h .params) (leading (c .args)) (c .args) (z .it) (k .params) (all-leading (Reads both maxBrackets) (c .args) (g .args)) (g .args) (z .there);
         some-param = k .some-param;
-        distinct = apart-params h (ap first (found-clean hs (c .op) h lawful (x .1)));
+        distinct = apart-params h (ap first (found-clean hs (c .op) h lawful (x .there)));
       } in
       rw q at r
 
   calls-fit : {ts us : List Token} {cs : List Call} (ps : List PlanCall) → IsBody maxBrackets ts cs us → AllGood ts → planCalls hs cs ≡ some ps → CallsFit hs ps
   unfolding planCalls
   calls-fit ps (last-call {c = c} i s) g e =
-      let x = bound (planCall hs c) _ ps e in
-      let q : x .0 ∷ [] ≡ ps = cc (x .2) in
-      rw q at (one-call (call-fits c (x .0) (call-good i g .0) (x .1)))
+      let x = bound (planCall hs c) _ e in
+      let q : x .it ∷ [] ≡ ps = cc (x .gives) in
+      rw q at (one-call (call-fits c (x .it) (call-good i g .0) (x .there)))
   calls-fit ps (next-call {c = c} {cs} i r) g e =
-      let x = bound (planCall hs c) _ ps e in
-      let y = bound (planCalls hs cs) _ ps (x .2) in
-      let q : x .0 ∷ y .0 ≡ ps = cc (y .2) in
+      let x = bound (planCall hs c) _ e in
+      let y = bound (planCalls hs cs) _ (x .gives) in
+      let q : x .it ∷ y .it ≡ ps = cc (y .gives) in
       let k = call-good i g in
-      rw q at (more-calls (call-fits c (x .0) (k .0) (x .1)) (calls-fit (y .0) r (k .1) (y .1)))
+      rw q at (more-calls (call-fits c (x .it) (k .0) (x .there)) (calls-fit (y .it) r (k .1) (y .there)))
 
   document-fits : {ts : List Token} {d : Document} (p : Plan) → IsDocument maxBrackets ts d → AllGood ts → planOf hs d ≡ some p → PlanFits hs p
   unfolding planOf
   document-fits p (a-document {n = n} {is = is} {os} {cs} v l g s o i a q t c b) k e =
       let x = names-fit i (k .1 .1 .1 .1 .1) in
       let y = names-fit t (x .1 .1 .1) in
-      let z = bound (planCalls hs cs) _ p e in
-      let whole : Plan = record { graph = n .bytes; inputs = spellings is; outputs = spellings os; calls = z .0 } in
-      let m : whole ≡ p = cc (z .2) in
-      let r : PlanFits hs whole = record { graph = good-name n (k .1 .1 .1 .0) s; inputs = x .0; outputs = y .0; calls = calls-fit (z .0) b (y .1 .1) (z .1) } in
+      let z = bound (planCalls hs cs) _ e in
+      let whole : Plan = record { graph = n .bytes; inputs = spellings is; outputs = spellings os; calls = z .it } in
+      let m : whole ≡ p = cc (z .gives) in
+      let r : PlanFits hs whole = record { graph = good-name n (k .1 .1 .1 .0) s; inputs = x .0; outputs = y .0; calls = calls-fit (z .it) b (y .1 .1) (z .there) } in
       rw m at r
 
 pub plan-fits : (list doc : List ℕ) (hs : List Header) (d : Document) (p : Plan) → AcceptedList list hs → AcceptedDocument hs doc d

@@ -48,7 +48,7 @@ pub record Planned (hs : List Header) (c : Call) (p : PlanCall) : Type 0 where
   pub left : readAt (c .left) (resultType (header .results)) ≡ some (p .left)
   pub values : valuesFor (slots (header .params) (c .args)) ≡ some (p .values)
 
-planned : (hs : List Header) (c : Call) {p : PlanCall} → planCall hs c ≡ some p → Planned hs c p
+pub planned : (hs : List Header) (c : Call) {p : PlanCall} → planCall hs c ≡ some p → Planned hs c p
 unfolding planCall
 planned hs c h =
     let made : Val → List Val → PlanCall = λ l vs. record { op = c .op .bytes; left = l; values = vs } in

@@ -13,7 +13,6 @@ use borrow.Author.Tests.{le-leb}
 use Rattle.lexis.specs.Ascii.{ascii}
 use Rattle.lexis.specs.Sizes.{maxExtent}
 use Rattle.lexis.specs.Kind as Kind
-use Rattle.lexis.specs.Number.{Reduced, valueFrom, partsOf, reducedOf}
 use Rattle.lexis.specs.Lexer.{Token}
 use Rattle.syntax.specs.Symbol.{symOf, symbolOf, isLiteral}
 use Rattle.syntax.specs.Tree.{Value, Values, Ty, Tys}
@@ -25,7 +24,7 @@ use Rattle.rules.specs.Reading.{Val, Vals, vArray, a-val, contentOf, literalAt,
 use Rattle.canonical.specs.Spelling.{digits, spellNumber, quoteFor, quoted, spellString, spellTruth}
 use Rattle.canonical.specs.Pieces.{Piece, tokensAt}
 use Rattle.canonical.specs.Layout.{piece, aName, mark, pieces, items, moreItems}
-use Rattle.canonical.proofs.Fit.{Lowest, Fits, fit-name, fit-number, fit-scalar, fit-extent, fit-string, fit-logical, fit-truth, fit-array, fit-tuple}
+use Rattle.canonical.proofs.Fit.{Fits, fit-name, fit-number, fit-scalar, fit-extent, fit-string, fit-logical, fit-truth, fit-array, fit-tuple}
 use Rattle.canonical.proofs.Digits.{value-digits}
 use Rattle.canonical.proofs.Numbers.{read-number}
 use Rattle.canonical.proofs.Fit.{FitsAll, all-none, all-more, FitsEach, each-none, each-more}

@@ -1,7 +1,6 @@
 -- Documents are read back: the tokens of a plan's canonical text spell a document of the shape that `Shape` says.
 -- In order: rows in round brackets; names; the parts of calls; left sides; arguments; calls; documents.
 use mathlib.Core.Path.{_≡_, refl, ap}
-use mathlib.Core.Bool.{Bool, true, false, cond}
 use mathlib.Core.List.{List, [], _∷_}
 use mathlib.Core.Option.{some}
 use Prim.Native.Nat.{ℕ, _<_}
@@ -11,7 +10,6 @@ use Rattle.lexis.specs.Ascii.{ascii}
 use Rattle.lexis.specs.Sizes.{maxBrackets}
 use Rattle.lexis.specs.Kind as Kind
 use Rattle.lexis.specs.Words.{sameBytes}
-use Rattle.lexis.specs.Number.{Reduced, valueFrom, partsOf, reducedOf}
 use Rattle.lexis.specs.Lexer.{Token}
 use Rattle.syntax.specs.Symbol.{symOf, symbolOf, keywordSymbol, rightRound, comma, equal}
 use Rattle.syntax.specs.Tree.{Value, Values, Ty, Param, Header, Call, Document}
@@ -21,14 +19,12 @@ use Rattle.syntax.specs.Grammar.{Separated, last, next, names, both, Spells, a-
 use Rattle.syntax.specs.Grammar.{IsName, the-name, IsArg, a-named, IsLeft, one-pattern, a-bare-tuple}
 use Rattle.syntax.specs.Grammar.{a-semicolon, IsCall, a-call, IsBody, last-call, next-call, IsDocument, a-document}
 use Rattle.rules.specs.Reading.{Val, a-val, readAt, readEach}
-use Rattle.rules.specs.DocumentRules.{find}
 use Rattle.canonical.specs.Plan.{PlanCall, Plan, spellings}
-use Rattle.canonical.specs.Spelling.{digits, spellNumber}
 use Rattle.canonical.specs.Pieces.{Piece, tokensAt}
 use Rattle.canonical.specs.Layout as Layout
 use Rattle.canonical.specs.Layout.{aName, mark, spaced, lined, pieces, items, moreItems, leftPieces, moreNames}
-use Rattle.canonical.specs.Layout.{argument, moreArguments, arguments, paramsOf, callPieces, callsPieces, document}
-use Rattle.canonical.proofs.Fit.{Lowest, LeftFits, alone, several, FitsParams, no-param, a-param, CallFits}
+use Rattle.canonical.specs.Layout.{argument, moreArguments, arguments, callPieces, callsPieces, document}
+use Rattle.canonical.proofs.Fit.{LeftFits, alone, several, FitsParams, no-param, a-param, CallFits}
 use Rattle.canonical.proofs.Fit.{CallsFit, one-call, more-calls, NamesFit, one-name, more-names, PlanFits}
 use Rattle.canonical.proofs.Shape as Shape
 use Rattle.canonical.proofs.Shape.{Named, no-arg, an-arg, CanonCall, CanonCalls, no-calls, CanonDocument}

@@ -3,7 +3,6 @@
 use mathlib.Core.Path.{_≡_}
 use mathlib.Core.List.{List, [], _∷_}
 use mathlib.Core.Option.{some}
-use Prim.Native.Nat.{ℕ}
 use Rattle.lexis.specs.Ascii.{ascii}
 use Rattle.lexis.specs.Lexer.{Token}
 use Rattle.syntax.specs.Tree.{Value, Param, Header, Arg, Call, Document}

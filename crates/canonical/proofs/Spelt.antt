@@ -3,7 +3,7 @@
 use mathlib.Core.Path.{_≡_, refl, sym, ap, ap₂, _∙_}
 use mathlib.Core.Bool.{Bool, true, false, cond, _||_}
 use mathlib.Core.List.{List, [], _∷_, _++_, map-append, cons≢nil}
-use Prim.Native.Nat.{ℕ, zero, suc, _+_, _≤_}
+use Prim.Native.Nat.{ℕ, suc, _+_, _≤_}
 use native.Mathlib.Omega.{arith}
 use lib.ListN.{length, take, drop, drop-of-length-le, length-map}
 use Rattle.lexis.specs.Lexer.{Token}
@@ -12,6 +12,7 @@ use Rattle.rules.specs.Fault.{faults, starts}
 use Rattle.rules.specs.Names.{those, isAmong, repeatsAfter}
 use Rattle.rules.specs.ListRules.{over}
 use Rattle.rules.proofs.DocumentFaults.{no-faults, no-starts}
+use Rattle.rules.proofs.DocumentFaults.{none-beyond}
 use Rattle.canonical.specs.Plan.{spellings}
 use Rattle.canonical.proofs.Clean.{Keeps}
 
@@ -120,11 +121,6 @@ repeats-keep rs ss (t ∷ ts) (u ∷ us) e q h =
 
 pub faults-keep : (c : ℕ) (ts us : List Token) → Keeps ts us → Keeps (faults c (starts ts)) (faults c (starts us))
 faults-keep c ts us f h = rw (f (no-starts ts (no-faults c (starts ts) h)))
-
-none-beyond : (n : ℕ) (ps : List ℕ) → take 1 (drop n ps) ≡ [] → length ps ≤ n
-none-beyond n [] h = omega arith
-none-beyond zero (p ∷ ps) h = absurd (cons≢nil h)
-none-beyond (suc n) (p ∷ ps) h = omega (arith, none-beyond n ps h)
 
 pub over-keep : (n : ℕ) (ps qs : List ℕ) → length qs ≤ length ps → Keeps (over n ps) (over n qs)
 over-keep n ps qs l h =

@@ -2,26 +2,24 @@
 -- `canon`. An operation list of the headers hs is fixed; a document is taken with its plan (`HasPlan`: it is accepted under the list).
 use mathlib.Core.Path.{_≡_, refl, sym, ap, _∙_}
 use mathlib.Core.Bool.{Bool, true, false, _&&_}
-use mathlib.Core.List.{List, [], _∷_, _++_}
+use mathlib.Core.List.{List}
 use mathlib.Core.Logic.{_↔_}
-use mathlib.Core.Option.{some}
 use Prim.Native.Nat.{ℕ, _+_, _≤_, _<_}
 use native.Mathlib.Omega.{arith}
 use lib.Dec.{leb}
-use lib.ListN.{length, take, drop}
+use lib.ListN.{length, drop}
 use lib.Seq.{sets, sets-eq, take-append-seam}
 use borrow.Author.Tests.{le-leb, lt-leb, leb-true}
 use Rattle.lexis.specs.Sizes.{maxText, maxTokens, maxBrackets, workWords, callWords, wireWords}
 use Rattle.lexis.specs.Answer.{answer}
 use Rattle.lexis.specs.declared.Answer.{Answer}
-use Rattle.lexis.specs.Lexer.{Token, accepted}
+use Rattle.lexis.specs.Lexer.{accepted}
 use Rattle.syntax.specs.Tree.{Header, Document}
 use Rattle.syntax.proofs.Theorems.{one-document}
 use Rattle.rules.specs.Answer.{Stage, pass, stop, andThen, guard, roomy, listStages, documentStages, counted, Checked, checked, checkAnswer, tableAfter}
 use Rattle.rules.specs.Accepted.{AcceptedList, AcceptedDocument}
-use Rattle.rules.specs.DocumentRules.{documentFaults}
 use Rattle.rules.proofs.Acceptance.{list-passes, document-passes}
-use Rattle.canonical.specs.Plan.{Plan, planOf}
+use Rattle.canonical.specs.Plan.{Plan}
 use Rattle.canonical.specs.Pieces.{text}
 use Rattle.canonical.specs.Layout.{document, canonical}
 use Rattle.canonical.specs.Answer.{layoutOf, writingStages, written, canonAnswer, outputAfter}

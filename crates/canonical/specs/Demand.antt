@@ -5,7 +5,6 @@ use mathlib.Core.List.{List}
 use mathlib.Core.Option.{some}
 use lib.ListN.{length, take}
 use Rattle.lexis.specs.Sizes.{maxText, maxTokens, workWords}
-use Rattle.lexis.specs.Answer.{answer}
 use Rattle.lexis.specs.declared.Answer.{Answer}
 use Rattle.syntax.specs.Tree.{Header, Document}
 use Rattle.rules.specs.Accepted.{AcceptedDocument}

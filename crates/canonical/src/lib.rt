@@ -1,6 +1,138 @@
-// The canonical text of documents.
+// The canonical text of documents, and the operation that writes it.
 pub mod argument;
+pub mod call;
+pub mod document;
 pub mod pattern;
 pub mod place;
 pub mod spelling;
 pub mod value;
+
+use document::put_document;
+use lexis::Answer;
+use lexis::code::Code;
+use lexis::limits::Limits;
+use place::Place;
+use rules::check::long_text;
+use rules::clear;
+use rules::stages::Staged;
+use rules::stages::both_stages;
+ghost use mathlib.Core.Path.{_≡_};
+ghost use mathlib.Core.Bool.{_&&_};
+ghost use Prim.Native.Nat.{_≤_};
+ghost use lib.Dec.{leb};
+ghost use lib.ListN.{length};
+ghost use Rattle.lexis.specs.Answer.{answer};
+ghost use Rattle.lexis.specs.Sizes.{maxText, maxTokens, workWords};
+ghost use Rattle.rules.specs.Answer.{workAfter};
+ghost use Rattle.rules.specs.Stages.{BothPassed};
+ghost use Rattle.canonical.specs.Answer.{written, canonAnswer, outputAfter};
+ghost use Rattle.canonical.specs.Writing.{textStages, Wrote};
+
+// Whether both work areas have the room that is asked.
+fn rooms_serve(work1: usize, work2: usize) -> bool
+    ensures { λ r. ⌜ r ≡ (leb workWords work1 && leb workWords work2) ⌝ }
+{
+    if !Limits::work_serves(work1) {
+        return false;
+    }
+    Limits::work_serves(work2)
+}
+
+// Whether a text that ends at this place keeps the byte and token limits.
+fn keeps_limits(size: Place) -> bool
+    ensures { λ r. ⌜ r ≡ (leb (size .bytes) maxText && leb (size .tokens) maxTokens) ⌝ }
+{
+    if !Limits::text_fits(size.bytes) {
+        return false;
+    }
+    size.tokens <= Limits::TOKENS
+}
+
+// An answer that names no text.
+fn no_text(code: u32, detail: u32) -> Answer
+    ensures { λ r. ⌜ r ≡ answer code 0 0 detail ⌝ }
+{
+    Answer {
+        code: code,
+        text: 0,
+        position: 0,
+        detail: detail,
+    }
+}
+
+// Measures the canonical text of a document that has passed its stages, and writes it if it keeps the limits and the output holds it.
+fn write(
+    list: &[u8],
+    work1: &[u32],
+    n: usize,
+    k: usize,
+    doc: &[u8],
+    work2: &[u32],
+    m: usize,
+    out: &mut [u8],
+) -> Answer
+    requires { ⌜ BothPassed (now list) (now doc) (now work1) (now work2) n k m ⌝ }
+    requires { ⌜ workWords ≤ length (now work1) ⌝ }
+    ensures { λ r. ⌜ Wrote (textStages (now (list .entry)) (now (doc .entry)) (length (now (out .entry)))) (now (out .entry)) (now (out .exit)) r ⌝ }
+{
+    let names = &work1[Limits::TABLE_WORDS..Limits::TABLE_WORDS + k];
+    let size = put_document(&mut out[0..0], list, work1, n, names, doc, work2, m);
+    if !keeps_limits(size) {
+        return no_text(25, 0);
+    }
+    let detail = size.bytes as u32;
+    if out.len() < size.bytes {
+        return no_text(26, detail);
+    }
+    put_document(out, list, work1, n, names, doc, work2, m);
+    no_text(0, detail)
+}
+
+// All stages after the guards. Leaves anything in the work areas.
+fn text_stages(
+    list: &[u8],
+    doc: &[u8],
+    work1: &mut [u32],
+    work2: &mut [u32],
+    out: &mut [u8],
+) -> Answer
+    requires { ⌜ (length (now list) ≤ maxText) × (length (now doc) ≤ maxText) ⌝ }
+    requires { ⌜ (workWords ≤ length (now work1)) × (workWords ≤ length (now work2)) ⌝ }
+    ensures { λ r. ⌜ Wrote (textStages (now (list .entry)) (now (doc .entry)) (length (now (out .entry)))) (now (out .entry)) (now (out .exit)) r ⌝ }
+    ensures { λ _. ⌜ length (now (work1 .exit)) ≡ length (now (work1 .entry)) ⌝ }
+    ensures { λ _. ⌜ length (now (work2 .exit)) ≡ length (now (work2 .entry)) ⌝ }
+{
+    match both_stages(list, doc, &mut *work1, &mut *work2) {
+        Staged::Passed(n, k, m) => write(list, work1, n, k, doc, work2, m, out),
+        Staged::Stopped(r) => r,
+    }
+}
+
+// The operation: after acceptance the output begins with the canonical text of the document. After any answer but a refusal of what is
+// lent both work areas are zero.
+pub fn canon(
+    list: &[u8],
+    doc: &[u8],
+    work1: &mut [u32],
+    work2: &mut [u32],
+    out: &mut [u8],
+) -> Answer
+    ensures { λ r. ⌜ r ≡ canonAnswer (now (list .entry)) (now (doc .entry)) (length (now (work1 .entry))) (length (now (work2 .entry))) (length (now (out .entry))) ⌝ }
+    ensures { λ _. ⌜ now (out .exit) ≡ outputAfter (written (now (list .entry)) (now (doc .entry)) (length (now (work1 .entry))) (length (now (work2 .entry))) (length (now (out .entry)))) (now (out .entry)) ⌝ }
+    ensures { λ r. ⌜ now (work1 .exit) ≡ workAfter r (now (work1 .entry)) ⌝ }
+    ensures { λ r. ⌜ now (work2 .exit) ≡ workAfter r (now (work2 .entry)) ⌝ }
+{
+    if !rooms_serve(work1.len(), work2.len()) {
+        return no_text(Code::SHORT_TABLE, 0);
+    }
+    if !Limits::text_fits(list.len()) {
+        return long_text(1);
+    }
+    if !Limits::text_fits(doc.len()) {
+        return long_text(2);
+    }
+    let r = text_stages(list, doc, &mut *work1, &mut *work2, out);
+    clear(work1);
+    clear(work2);
+    r
+}

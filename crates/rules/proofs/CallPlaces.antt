@@ -30,7 +30,8 @@ pub record CallParts (b : ℕ) (ts : List Token) (c : Call) (us : List Token) : 
   pub bracket : Token
   pub inner : List Token
   pub behind : List Token
-  pub left : IsLeft b ts (c .left) (c .op ∷ bracket ∷ inner)
+  pub leads : left b ts ≡ ok (c .left) (c .op ∷ bracket ∷ inner)
+  pub is-left : IsLeft b ts (c .left) (c .op ∷ bracket ∷ inner)
   pub named : symOf (c .op) ≡ aName
   pub opened : symOf bracket ≡ leftRound
   pub read : row plain (commas rightRound) (argument b) inner ≡ ok (c .args) behind
@@ -58,7 +59,8 @@ call-parts b ts c us e =
       bracket = o .0;
       inner = o .1;
       behind = r .1;
-      left = rw whole at L;
+      leads = l .2 ∙ ap (λ (x : List Token). ok (l .0) x) whole;
+      is-left = rw whole at L;
       named = p .1;
       opened = q .1;
       read = r .2;
@@ -96,7 +98,7 @@ module _ (text table : List ℕ) (n at : ℕ) where
     e = p .equal
 
     x : Comes (fromSymbol equal) equal (tk at) (c .op ∷ w .bracket ∷ w .inner)
-    x = left-equal (w .left)
+    x = left-equal (w .is-left)
 
     -- the tokens from the `=` on, and from the closing bracket on
     at-equal : First text table n e (x .token) (c .op ∷ w .bracket ∷ w .inner)
@@ -124,7 +126,7 @@ module _ (text table : List ℕ) (n at : ℕ) where
         ap namesAmong (toks-split text table n at e (f .from) (f .left))
         ∙ those-append _ (toks text table e at) (tk e)
         ∙ ap (λ (l : List Token). namesAmong (toks text table e at) ++ l) (ap namesAmong (f .equal-is ∙ x .reached ∙ symbol-here (x .token) rest equal (x .closes)) ∙ names-past (x .token) rest (x .closes) refl) in
-        cancel (namesAmong (toks text table e at)) (assigned c) (namesAmong rest) (sym whole ∙ left-names (w .left))
+        cancel (namesAmong (toks text table e at)) (assigned c) (namesAmong rest) (sym whole ∙ left-names (w .is-left))
 
     uses-are : usesAmong (toks text table (p .close) (e + 3)) ≡ used c
     unfolding used
@@ -159,12 +161,14 @@ module _ (text table : List ℕ) (n at : ℕ) where
             let k : p .next ≡ p .close + 1 = v ∙ ap (λ (s : Bool). cond s (p .close + 2) (p .close + 1)) q in
             (u ∙ ap (λ (s : Bool). cond s (rest (w .behind)) (w .behind)) q ∙ sym (at-close .rest) ∙ ap tk (sym k), omega arith)
 
-    call-placed : ((b : ℕ) (ws : List Token) → call b (toks text table n at) ≡ ok c ws → Arguments b (toks text table n (p .equal + 3)) (c .args)) → CallAt text table n at p c us
-    call-placed arguments =
-        let s = left-starts (w .left) in
+    call-placed : ((b : ℕ) (ws : List Token) → call b (toks text table n at) ≡ ok c ws → left b (toks text table n at) ≡ ok (c .left) (toks text table n (p .equal + 1)))
+        → ((b : ℕ) (ws : List Token) → call b (toks text table n at) ≡ ok c ws → Arguments b (toks text table n (p .equal + 3)) (c .args)) → CallAt text table n at p c us
+    call-placed leads arguments =
+        let s = left-starts (w .is-left) in
         let o = first-of text table n at (firstToken (c .left)) (s .others) (s .whole) in
         record {
           first = o .here;
+          leads = leads;
           assigns = names-are;
           title = at-name .here;
           uses = uses-are;
@@ -173,10 +177,15 @@ module _ (text table : List ℕ) (n at : ℕ) where
           inside = (o .inside, at-name .inside, after-is .1);
         }
 
+  leads-at : (p : Places) → Found p → (c : Call) (b : ℕ) (us : List Token) → call b (toks text table n at) ≡ ok c us → left b (toks text table n at) ≡ ok (c .left) (toks text table n (p .equal + 1))
+  leads-at p f c b us h =
+      let w = call-parts b (toks text table n at) c us h in
+      w .leads ∙ ap (λ (x : List Token). ok (c .left) x) (sym (at-equal p f b c us w .rest))
+
   arguments-at : (p : Places) → Found p → (c : Call) (b : ℕ) (us : List Token) → call b (toks text table n at) ≡ ok c us → Arguments b (toks text table n (p .equal + 3)) (c .args)
   arguments-at p f c b us h =
       let w = call-parts b (toks text table n at) c us h in
       record { behind = w .behind; read = ap (row plain (commas rightRound) (argument b)) (inside p f b c us w) ∙ w .read }
 
   pub call-at : (p : Places) → Found p → (b : ℕ) (c : Call) (us : List Token) → call b (toks text table n at) ≡ ok c us → CallAt text table n at p c us
-  call-at p f b c us h = call-placed p f b c us (call-parts b (toks text table n at) c us h) (arguments-at p f c)
+  call-at p f b c us h = call-placed p f b c us (call-parts b (toks text table n at) c us h) (leads-at p f c) (arguments-at p f c)

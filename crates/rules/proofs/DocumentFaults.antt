@@ -77,7 +77,7 @@ own-clean hs h =
     let c = first (flatMap L.ownFaults hs) in
     neither b c (neither a (earlier b c) (sym (list-parts hs) ∙ h) .1) .1
 
-none-beyond : (k : ℕ) (xs : List ℕ) → take 1 (drop k xs) ≡ [] → length xs ≤ k
+pub none-beyond : (k : ℕ) (xs : List ℕ) → take 1 (drop k xs) ≡ [] → length xs ≤ k
 none-beyond k xs h = go (leb (length xs) k) refl
   where
     go : (b : Bool) → leb (length xs) k ≡ b → length xs ≤ k

@@ -54,7 +54,7 @@ record Parts (b : ℕ) (ts : List Token) (d : Document) : Type 0 where
   inputs : Names first (d .inputs) (a ∷ p ∷ second)
   arrow-is : symOf a ≡ arrow
   open-is : symOf p ≡ leftRound
-  outputs : Names second (d .outputs) (q ∷ third)
+  outputs : row plain (commas rightRound) (expect aName) second ≡ ok (d .outputs) (q ∷ third)
   body : row plain (closed rightCurly) (call b) third ≡ ok (d .calls) []
 
 -- the token t stands before us
@@ -93,7 +93,7 @@ parts-of b ts d e0 =
       inputs = rw (prepend h7 h8) at (separated-ok (expect aName) rightRound t5 is t6 h6);
       arrow-is = s7;
       open-is = s8;
-      outputs = rw h10 at (separated-ok (expect aName) rightRound t8 os t9 h9);
+      outputs = h9 ∙ ap (λ (x : List Token). ok os x) h10;
       body = h11 ∙ ap (λ (x : List Token). ok cs x) (end .0);
     }))))))))))))
 
@@ -199,13 +199,19 @@ module _ (text table : List ℕ) (n : ℕ) where
     three = omega (arith, f .outputs-from, at-p .inside)
 
     outs : Row (i + 3) c (d .outputs) (w .q ∷ w .third)
-    outs = row-at (i + 3) c (d .outputs) _ three (f .outputs-in) (f .outputs-is) (rw second-at (w .outputs))
+    outs = row-at (i + 3) c (d .outputs) _ three (f .outputs-in) (f .outputs-is) (rw second-at (separated-ok (expect aName) rightRound (w .second) (d .outputs) (w .q ∷ w .third) (w .outputs)))
 
     at-q : First text table n (c + 1) (w .q) (w .third)
     at-q = first-of text table n (c + 1) (w .q) _ (outs .here .rest)
 
     third-at : tk (g .body) ≡ w .third
     third-at = let q : g .body ≡ c + 1 + 1 = omega (arith, f .body-is) in ap tk q ∙ at-q .rest
+
+    returned-is : row plain (commas rightRound) (expect aName) (tk (g .outputs)) ≡ ok (d .outputs) (tk (c + 1))
+    returned-is =
+        ap (row plain (commas rightRound) (expect aName)) (ap tk (f .begins-is) ∙ second-at)
+        ∙ w .outputs
+        ∙ ap (λ (x : List Token). ok (d .outputs) x) (sym (outs .here .rest))
 
     -- from the inputs' closing bracket to the outputs there is no name
     between : namesAmong (toks text table c i) ≡ namesAmong (toks text table c (i + 3))
@@ -241,6 +247,7 @@ module _ (text table : List ℕ) (n : ℕ) where
           inside = at1 .inside;
           inputs = ins .names;
           outputs = ap (λ (k : ℕ). namesAmong (toks text table c k)) (f .begins-is) ∙ outs .names;
+          returned = returned-is;
           listed = listed-is;
           body = body-at;
           calls = calls-at;

@@ -47,7 +47,7 @@ no-fault : {A X : Type 0} (e n : ℕ) {p : Parse A} {a : A} {us : List Token} {x
 no-fault e n first fell h = let z = sym fell ∙ (first ∙ ap (parsed e n) h) in clash cc
 
 -- what it leaves are the tokens from the place that it has reached
-left-at : {A : Type 0} {item : Reader A} → Tails item → (text table : List ℕ) (e n i : ℕ) {a : A} {us : List Token} {x : Parsed} {j : ℕ}
+pub left-at : {A : Type 0} {item : Reader A} → Tails item → (text table : List ℕ) (e n i : ℕ) {a : A} {us : List Token} {x : Parsed} {j : ℕ}
     → x ≡ parsed e n (item (toks text table n i)) → x ≡ Done j → item (toks text table n i) ≡ ok a us → us ≡ toks text table n j
 left-at {A} tails text table e n i {a} {us} {j = j} first reached h =
     let z = sym reached ∙ (first ∙ ap (parsed e n) h) in

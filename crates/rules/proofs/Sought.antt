@@ -32,7 +32,7 @@ same-is (x ∷ a) (y ∷ b) h = go (eqb x y) refl h (same-is a b)
     go true e q ih = ap₂ (λ (z : ℕ) (r : List ℕ). z ∷ r) (eqb-true x y e) (ih q)
     go false e q ih = absurd (false≢true q)
 
-same-self : (a : List ℕ) → sameBytes a a ≡ true
+pub same-self : (a : List ℕ) → sameBytes a a ≡ true
 unfolding sameBytes
 same-self [] = refl
 same-self (x ∷ a) = simp (eq-eqb x x refl, same-self a)

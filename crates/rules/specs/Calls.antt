@@ -5,7 +5,7 @@ use Prim.Native.Nat.{ℕ, _+_, _<_, _≤_}
 use Rattle.lexis.specs.Lexer.{Token}
 use Rattle.syntax.specs.Symbol.{rightRound}
 use Rattle.syntax.specs.Tree.{Arg, Call}
-use Rattle.syntax.specs.Parser.{plain, commas, row, argument, call}
+use Rattle.syntax.specs.Parser.{plain, commas, row, argument, left, call}
 use Rattle.syntax.specs.Parser.Parse.{ok}
 use Rattle.syntax.specs.Table.{tokenAt, toks}
 use Rattle.rules.specs.Names.{firstToken, assigned, used}
@@ -25,6 +25,7 @@ pub record Arguments (b : ℕ) (ts : List Token) (xs : List Arg) : Type 0 where
 -- the call c, read from place `at`, has its parts at the places p, and us after it
 pub record CallAt (text table : List ℕ) (n at : ℕ) (p : Places) (c : Call) (us : List Token) : Type 0 where
   pub first : tokenAt text table at ≡ firstToken (c .left)
+  pub leads : (b : ℕ) (ws : List Token) → call b (toks text table n at) ≡ ok c ws → left b (toks text table n at) ≡ ok (c .left) (toks text table n (p .equal + 1))
   pub assigns : namesAmong (toks text table (p .equal) at) ≡ assigned c
   pub title : tokenAt text table (p .equal + 1) ≡ c .op
   pub uses : usesAmong (toks text table (p .close) (p .equal + 3)) ≡ used c

@@ -4,9 +4,9 @@ use mathlib.Core.List.{List, [], _∷_, _++_}
 use Prim.Native.Nat.{ℕ, _+_, _<_}
 use lib.ListN.{length}
 use Rattle.lexis.specs.Lexer.{Token}
-use Rattle.syntax.specs.Symbol.{rightCurly}
+use Rattle.syntax.specs.Symbol.{rightRound, rightCurly, aName}
 use Rattle.syntax.specs.Tree.{Call, Document}
-use Rattle.syntax.specs.Parser.{row, plain, closed, call}
+use Rattle.syntax.specs.Parser.{expect, row, plain, commas, closed, call}
 use Rattle.syntax.specs.Parser.Parse.{ok}
 use Rattle.syntax.specs.Table.{tokenAt, toks}
 use Rattle.rules.specs.Fault.{earlier, first}
@@ -24,6 +24,7 @@ pub record GraphAt (text table : List ℕ) (n b : ℕ) (g : Graph) (d : Document
   pub inside : 1 < n
   pub inputs : namesAmong (toks text table (g .inputs) 5) ≡ d .inputs
   pub outputs : namesAmong (toks text table (g .closes) (g .outputs)) ≡ d .outputs
+  pub returned : row plain (commas rightRound) (expect aName) (toks text table n (g .outputs)) ≡ ok (d .outputs) (toks text table n (g .closes + 1))
   pub listed : namesAmong (toks text table (g .closes) 5) ≡ d .inputs ++ d .outputs
   pub body : row plain (closed rightCurly) (call b) (toks text table n (g .body)) ≡ ok (d .calls) []
   pub calls : Calls b (toks text table n (g .body)) (d .calls) (toks text table n (g .end))

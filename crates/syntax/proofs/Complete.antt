@@ -312,7 +312,7 @@ body-complete {b} (next-call {ts = ts} h i) =
     let first = body-starts i in
     row-next plain (closed rightCurly) (call-shrinks b) ts (call-complete (not-begins semicolon refl first) h) (follow-on first) (body-complete i)
 
-name-complete : (ts : List Token) (n c : Token) (us : List Token) → Stops c → IsName ts n (c ∷ us) → expect aName ts ≡ ok n (c ∷ us)
+pub name-complete : (ts : List Token) (n c : Token) (us : List Token) → Stops c → IsName ts n (c ∷ us) → expect aName ts ≡ ok n (c ∷ us)
 unfolding expect
 name-complete ts n c us k (the-name e) = rw e
 

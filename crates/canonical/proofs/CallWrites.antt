@@ -1,0 +1,137 @@
+-- What the writing of calls and of a document comes to. In order: no faults; a call under the header that is found for it; calls
+-- one at a time; the document.
+use mathlib.Core.Path.{_≡_, sym, ap, subst, _∙_}
+use mathlib.Core.List.{List, [], _∷_, flatMap, append-eq-nil-iff}
+use mathlib.Core.Option.{Option, some}
+use Prim.Native.Nat.{ℕ, _<_, _≤_}
+use Rattle.lexis.specs.Ascii.{ascii}
+use Rattle.lexis.specs.Sizes.{maxBrackets}
+use Rattle.lexis.specs.Kind as Kind
+use Rattle.lexis.specs.Lexer.{Token}
+use Rattle.syntax.specs.Tree.{Header, Call, Document}
+use Rattle.syntax.specs.Parser.{call}
+use Rattle.syntax.specs.Parser.Parse.{ok}
+use Rattle.syntax.specs.Table.{toks}
+use Rattle.rules.specs.Reading.{readAt, resultType}
+use Rattle.rules.specs.Binding.{slots, misplaced}
+use Rattle.rules.specs.DocumentRules.{find, byOperation, argumentFaults, documentFaults}
+use Rattle.rules.specs.Operations.{boundFaults}
+use Rattle.rules.specs.Calls.{Calls, CallAt}
+use Rattle.rules.specs.declared.calls.Places.{Places}
+use Rattle.rules.proofs.Lookups.{calls-more, calls-none}
+use Rattle.canonical.specs.declared.place.Place.{Place}
+use Rattle.canonical.specs.Plan.{PlanCall, Plan, valuesFor, planCall, planCalls, spellings, planOf}
+use Rattle.canonical.specs.Pieces.{Piece}
+use Rattle.canonical.specs.Layout.{spaced, lined, aName, mark, names, leftPieces, arguments, paramsOf, callPieces, callsPieces, document}
+use Rattle.canonical.specs.Writing.{Puts, Written}
+use Rattle.canonical.proofs.Found.{params-found}
+use Rattle.canonical.proofs.Planned.{bound, both, planned}
+use Rattle.canonical.proofs.PlanExists.{row-none}
+use Rattle.canonical.proofs.Putting.{puts-none, puts-then, puts-stored, puts-onward}
+
+-- ---- no faults
+
+-- the calls of a document without faults have none in their arguments
+pub arguments-clean : (hs : List Header) (d : Document) → documentFaults hs d ≡ [] → flatMap (argumentFaults hs) (d .calls) ≡ []
+unfolding documentFaults
+arguments-clean hs d h = row-none _ h .1 .1 .1 .1 .0
+
+-- ---- one call
+
+-- the call c, planned as p, under its header h
+pub record Under (hs : List Header) (h : Header) (c : Call) (p : PlanCall) : Type 0 where
+  pub op : c .op .bytes ≡ p .op
+  pub left : readAt (c .left) (resultType (h .results)) ≡ some (p .left)
+  pub placed : misplaced (h .params) (c .args) ≡ []
+  pub values : valuesFor (slots (h .params) (c .args)) ≡ some (p .values)
+  pub params : paramsOf hs (p .op) ≡ h .params
+
+placed-none : (hs : List Header) (c : Call) {h : Header} → find hs (c .op) ≡ some h → argumentFaults hs c ≡ [] → misplaced (h .params) (c .args) ≡ []
+unfolding argumentFaults
+placed-none hs c e f = row-none _ (ap (λ (o : Option Header). byOperation o (λ h. boundFaults h c) []) (sym e) ∙ f) .0
+
+pub under : (hs : List Header) (c : Call) {h : Header} {p : PlanCall} → find hs (c .op) ≡ some h → argumentFaults hs c ≡ [] → planCall hs c ≡ some p → Under hs h c p
+under hs c {h} {p} e f g =
+    let w = planned hs c g in
+    let same : w .header ≡ h = cc (w .found, e) in
+    record {
+      op = w .op;
+      left = rw same at (w .left);
+      placed = placed-none hs c e f;
+      values = rw same at (w .values);
+      params = ap (paramsOf hs) (sym (w .op)) ∙ params-found hs (c .op) e;
+    }
+
+-- its parts were put one after the other
+module _ {hs : List Header} {h : Header} {c : Call} {p : PlanCall} (u : Under hs h c p) where
+  pub puts-call : {t : Token} {o₀ o₁ o₂ o₃ o₄ o₅ : List ℕ} {s₀ s₁ s₂ s₃ s₄ s₅ : Place} → t ≡ c .op
+      → Puts (leftPieces (p .left)) o₀ o₁ s₀ s₁
+      → Puts (λ q. mark (ascii "=") ∷ aName (t .bytes) ∷ mark (ascii "(") ∷ q) o₁ o₂ s₁ s₂
+      → Puts (arguments (h .params) (p .values)) o₂ o₃ s₂ s₃
+      → Puts (λ q. mark (ascii ")") ∷ q) o₃ o₄ s₃ s₄
+      → Puts (λ q. lined Kind.syntactic (ascii ";") ∷ q) o₄ o₅ s₄ s₅
+      → Puts (callPieces hs p) o₀ o₅ s₀ s₅
+  unfolding callPieces
+  puts-call {t} e l o a k z =
+      let name : t .bytes ≡ p .op = ap (λ (x : Token). x .bytes) e ∙ u .op in
+      puts-then l (puts-then (rw name at o) (puts-then (rw (← u .params) at a) (puts-then k z)))
+
+-- ---- calls
+
+module _ (text table : List ℕ) (n end : ℕ) (hs : List Header) (all : List Piece → List Piece) (out₀ : List ℕ) (s₀ : Place) where
+  -- at place i: the calls that are left, and their plans; once these are put, all is
+  pub record Ahead (i : ℕ) (out : List ℕ) (s : Place) : Type 0 where
+    pub calls : List Call
+    pub plans : List PlanCall
+    pub are : Calls maxBrackets (toks text table n i) calls (toks text table n end)
+    pub clean : flatMap (argumentFaults hs) calls ≡ []
+    pub planned : planCalls hs calls ≡ some plans
+    pub join : {out' : List ℕ} {s' : Place} → Puts (callsPieces hs plans) out out' s s' → Puts all out₀ out' s₀ s'
+
+  pub ahead-next : (i : ℕ) (p : Places) {out out' : List ℕ} {s s' : Place} → i < end → end ≤ n
+      → ((b : ℕ) (c : Call) (us : List Token) → call b (toks text table n i) ≡ ok c us → CallAt text table n i p c us)
+      → ((c : Call) (us : List Token) (q : PlanCall) → call maxBrackets (toks text table n i) ≡ ok c us → CallAt text table n i p c us → argumentFaults hs c ≡ [] → planCall hs c ≡ some q → Puts (callPieces hs q) out out' s s')
+      → Ahead i out s → Ahead (p .next) out' s'
+  unfolding flatMap planCalls callsPieces
+  ahead-next i p {out} {out'} {s} {s'} h l at put w =
+      let m = calls-more text table n end maxBrackets i (w .calls) h l (w .are) in
+      let a = at maxBrackets (m .one) (m .after) (m .is) in
+      let f = append-eq-nil-iff {p = argumentFaults hs (m .one)} {q = flatMap (argumentFaults hs) (m .others)} .0 (ap (flatMap (argumentFaults hs)) (sym (m .whole)) ∙ w .clean) in
+      let x = both (planCall hs (m .one)) (planCalls hs (m .others)) (λ q qs. q ∷ qs) (ap (planCalls hs) (sym (m .whole)) ∙ w .planned) in
+      let here = put (m .one) (m .after) (x .one) (m .is) a (f .0) (x .one-there) in
+      record {
+        calls = m .others;
+        plans = x .two;
+        are = rw (a .after) at (m .on);
+        clean = f .1;
+        planned = x .two-there;
+        join = λ {out' = o} {s' = t} q. w .join (subst (λ (ps : List PlanCall). Puts (callsPieces hs ps) out o s t) (x .made) (puts-then here q));
+      }
+
+  pub ahead-end : (i : ℕ) {out : List ℕ} {s : Place} → end ≤ i → Ahead i out s → Puts all out₀ out s₀ s
+  unfolding planCalls callsPieces
+  ahead-end i {out} {s} h w =
+      let z = calls-none text table n end maxBrackets i (w .calls) h (w .are) in
+      let e : [] ≡ w .plans = cc (ap (planCalls hs) (sym z) ∙ w .planned) in
+      w .join (subst (λ (ps : List PlanCall). Puts (callsPieces hs ps) out out s s) e puts-none)
+
+-- ---- the document
+
+abbrev start : Place
+start = record { bytes = 0; tokens = 0 }
+
+pub puts-document : (hs : List Header) (d : Document) {p : Plan} {o₀ o₁ o₂ o₃ : List ℕ} {s₁ s₂ s₃ : Place} → planOf hs d ≡ some p
+    → Puts (λ q.
+    spaced Kind.keyword (ascii "version") ∷ lined Kind.real (ascii "1.0") ∷ spaced Kind.keyword (ascii "graph") ∷ aName (d .graph .bytes) ∷ mark (ascii "(")
+    ∷ names (spellings (d .inputs)) (mark (ascii ")") ∷ mark (ascii "->") ∷ mark (ascii "(")
+    ∷ names (spellings (d .outputs)) (lined Kind.syntactic (ascii ")") ∷ lined Kind.syntactic (ascii "{") ∷ q))) o₀ o₁ start s₁
+    → ((cs : List PlanCall) → planCalls hs (d .calls) ≡ some cs → Puts (callsPieces hs cs) o₁ o₂ s₁ s₂)
+    → Puts (λ q. lined Kind.syntactic (ascii "}") ∷ q) o₂ o₃ s₂ s₃
+    → Written (document hs p) o₀ o₃ s₃
+unfolding planOf document
+puts-document hs d {p} {o₀} {o₃ = o₃} {s₃ = s₃} e h c k =
+    let made : List PlanCall → Plan = λ cs. record { graph = d .graph .bytes; inputs = spellings (d .inputs); outputs = spellings (d .outputs); calls = cs } in
+    let x = bound (planCalls hs (d .calls)) (λ cs. some (made cs)) e in
+    let is : made (x .it) ≡ p = cc (x .gives) in
+    let all = puts-then h (puts-then (c (x .it) (x .there)) k) in
+    subst (λ (y : Plan). Written (document hs y) o₀ o₃ s₃) is (record { bytes = puts-stored all; place = puts-onward all })

@@ -1,0 +1,244 @@
+-- From what the stages of both texts come to, to all that `canon` ensures. In order: the stages after those of both texts, and their codes;
+-- the size of pieces as it is measured; the pieces of a document that has passed, measured and written; the guards.
+use mathlib.Core.Path.{_≡_, refl, sym, ap, ap₂, _∙_}
+use mathlib.Core.Bool.{Bool, true, false, _&&_, _||_, and-eq-true-iff}
+use mathlib.Core.List.{List, [], _++_}
+use mathlib.Core.Option.{Option, some}
+use Prim.Native.Nat.{ℕ, suc, _-_, _+_, _≤_, _<_, min}
+use native.Mathlib.Omega.{arith}
+use borrow.Author.Tests.{le-leb, lt-leb, leb-true, leb-false, ne-eqb}
+use lib.Dec.{leb, eqb}
+use lib.ListN.{length, take, drop, replicate}
+use Rattle.lexis.specs.Sizes.{maxText, maxTokens, maxBrackets, tableWords, workWords}
+use Rattle.lexis.specs.Answer.{answer}
+use Rattle.lexis.specs.declared.Answer.{Answer}
+use Rattle.syntax.specs.Tree.{Header, Document}
+use Rattle.syntax.specs.Parser.{parseDocument}
+use Rattle.syntax.specs.Parser.Parse.{ok}
+use Rattle.syntax.specs.Table.{toks, Holds}
+use Rattle.rules.specs.ListRules.{listFaults}
+use Rattle.rules.specs.DocumentRules.{documentFaults}
+use Rattle.rules.specs.Lists.{Heads, Places}
+use Rattle.rules.specs.Answer.{Stage, pass, stop, andThen, guard, counted, listStages, documentStages, Checked, workAfter}
+use Rattle.rules.specs.Stages.{bothStages, BothPassed}
+use Rattle.rules.proofs.First.{first-none}
+use Rattle.rules.proofs.DocumentCodes.{joined, both-codes}
+use Rattle.rules.proofs.BothStages.{list-clean, document-clean, part-heads, part-places, both-under}
+use Rattle.canonical.specs.Plan.{Plan, planOf}
+use Rattle.canonical.specs.Pieces.{Piece, text}
+use Rattle.canonical.specs.Layout.{document}
+use Rattle.canonical.specs.Answer.{laidOut, layoutOf, writingStages, written, canonAnswer, outputAfter}
+use Rattle.canonical.specs.Writing.{stored, onward, Written, Ranged, textStages, Wrote}
+use Rattle.canonical.specs.declared.place.Place.{Place}
+use Rattle.canonical.proofs.Measures.{passed-is, tallied-is, stored-is, stored-none, ranged}
+use Rattle.canonical.proofs.PlanExists.{plan-exists}
+
+-- ---- the stages
+
+-- the answer and the output are those of equal stages; a refusal leaves the output as it was
+wrote-as : {s t : Stage (List ℕ)} {out out' : List ℕ} {r : Answer} → s ≡ t → r ≡ counted t length → out' ≡ outputAfter t out → Wrote s out out' r
+wrote-as {out = out} e a k =
+    record { answered = a ∙ sym (ap (λ (x : Stage (List ℕ)). counted x length) e); output = k ∙ sym (ap (λ (x : Stage (List ℕ)). outputAfter x out) e) }
+
+pub wrote-stopped : {s : Stage (List ℕ)} {out out' : List ℕ} {q r : Answer} → s ≡ stop q → r ≡ q → out' ≡ out → Wrote s out out' r
+unfolding outputAfter
+wrote-stopped e a k = wrote-as e a k
+
+-- a work area is cleared after stages whose refusals have none of the codes 1 and 2
+cleared-after : {A : Type 0} (s : Stage A) (n : A → ℕ) → ((a : Answer) → s ≡ stop a → 3 ≤ a .code) → (work : List ℕ) {r : Answer} → r ≡ counted s n → replicate (length work) 0 ≡ workAfter r work
+unfolding workAfter
+cleared-after (pass a) n h work e = rw e
+cleared-after (stop q) n h work e = let c = h q refl in rw (e, ne-eqb (q .code) 1 (λ z. omega (arith, c, z)), ne-eqb (q .code) 2 (λ z. omega (arith, c, z)))
+
+module _ (list doc : List ℕ) (out : ℕ) where
+  -- what canon does where the stages of both texts pass
+  abbrev writes : Checked → Stage (List ℕ)
+  writes k = writingStages (layoutOf (k .headers) (k .document)) out
+
+  text-after : textStages list doc out ≡ andThen (bothStages list doc) writes
+  unfolding textStages bothStages
+  text-after = first (listStages list)
+    where
+      second : (hs : List Header) (s : Stage Document) → andThen s (λ d. writingStages (layoutOf hs d) out) ≡ andThen (andThen s (λ d. joined hs d)) writes
+      second hs (pass d) = refl
+      second hs (stop r) = refl
+
+      first : (s : Stage (List Header)) → andThen s (λ hs. andThen (documentStages hs doc) (λ d. writingStages (layoutOf hs d) out)) ≡ andThen (andThen s (λ hs. andThen (documentStages hs doc) (λ d. joined hs d))) writes
+      first (pass hs) = second hs (documentStages hs doc)
+      first (stop r) = refl
+
+  pub text-stopped : {r : Answer} → bothStages list doc ≡ stop r → textStages list doc out ≡ stop r
+  text-stopped e = text-after ∙ ap (λ (s : Stage Checked). andThen s writes) e
+
+  -- a refusal has none of the codes 1 and 2
+  text-codes : (r : Answer) → textStages list doc out ≡ stop r → 3 ≤ r .code
+  unfolding writingStages
+  text-codes r h = go (bothStages list doc) refl (sym text-after ∙ h)
+    where
+      size : (bs : List ℕ) (a b : Bool) → guard a (answer 25 0 0 0) (guard b (answer 26 0 0 (length bs)) (pass bs)) ≡ stop r → 3 ≤ r .code
+      size bs false b e = let c : 25 ≡ r .code = ap (λ (x : Stage (List ℕ)). counted x length .code) e in omega arith
+      size bs true false e = let c : 26 ≡ r .code = ap (λ (x : Stage (List ℕ)). counted x length .code) e in omega arith
+      size bs true true e = let z : _≡_ {A = ℕ} 0 1 = cc in absurd (omega arith)
+
+      go : (s : Stage Checked) → bothStages list doc ≡ s → andThen s writes ≡ stop r → 3 ≤ r .code
+      go (stop q) e k = both-codes list doc r (e ∙ ap (λ (x : Answer). stop x) (ap (λ (x : Stage (List ℕ)). counted x length) k))
+      go (pass c) e k = let ps = layoutOf (c .headers) (c .document) in size (text ps) (leb (length (text ps)) maxText && leb (length ps) maxTokens) (leb (length (text ps)) out) k
+
+-- ---- the size of pieces
+
+-- a count that stops one beyond its limit tells whether it is kept
+capped : (n m : ℕ) → leb (min n (suc m)) m ≡ leb n m
+capped n m = go (leb n m) refl
+  where
+    go : (b : Bool) → leb n m ≡ b → leb (min n (suc m)) m ≡ b
+    go true e = let l = leb-true n m e in le-leb (min n (suc m)) m (omega (arith, l))
+    go false e = let l = leb-false n m e in lt-leb (min n (suc m)) m (omega (arith, l))
+
+abbrev keepsLimits : Place → Bool
+keepsLimits s = leb (s .bytes) maxText && leb (s .tokens) maxTokens
+
+-- pieces that were put, whatever the output
+module _ {ps : List Piece} {out out' : List ℕ} {s : Place} (w : Written ps out out' s) where
+  bytes-are : s .bytes ≡ min (length (text ps)) (suc maxText)
+  unfolding onward
+  bytes-are = let e = ap (λ (x : Place). x .bytes) (w .place) ∙ passed-is 0 (text ps) (omega arith) in omega (arith, e)
+
+  tokens-are : s .tokens ≡ min (length ps) (suc maxTokens)
+  unfolding onward
+  tokens-are = let e = ap (λ (x : Place). x .tokens) (w .place) ∙ tallied-is 0 ps (omega arith) in omega (arith, e)
+
+  pub bytes-few : s .bytes ≤ suc maxText
+  bytes-few = let e = bytes-are in omega (arith, e)
+
+  limits-are : keepsLimits s ≡ (leb (length (text ps)) maxText && leb (length ps) maxTokens)
+  limits-are =
+      ap₂ (λ (x y : ℕ). leb x maxText && leb y maxTokens) bytes-are tokens-are
+      ∙ ap₂ _&&_ (capped (length (text ps)) maxText) (capped (length ps) maxTokens)
+
+  -- where they keep the limits, their bytes are counted in full
+  all-counted : keepsLimits s ≡ true → s .bytes ≡ length (text ps)
+  all-counted e =
+      let l = leb-true (s .bytes) maxText (and-eq-true-iff (leb (s .bytes) maxText) (leb (s .tokens) maxTokens) .0 e .0) in
+      let c = bytes-are in
+      omega (arith, l, c)
+
+-- ---- a document that has passed
+
+module _ {list doc work₁ work₂ : List ℕ} {n k m : ℕ} (b : BothPassed list doc work₁ work₂ n k m) where
+  abbrev headers : List Header
+  headers = b .first .headers
+
+  abbrev tree : Document
+  tree = b .second .document
+
+  faultless : documentFaults headers tree ≡ []
+  faultless = first-none (documentFaults headers tree) (document-clean headers doc tree (b .second .stages))
+
+  pub plan : (p : Plan) × (planOf headers tree ≡ some p)
+  plan = plan-exists headers tree (first-none (listFaults headers) (list-clean list headers (b .first .stages))) faultless
+
+  -- the pieces of its canonical text, and the stages that are left
+  abbrev pub laid : List Piece
+  laid = document headers (plan .0)
+
+  left-are : (out : ℕ) → textStages list doc out ≡ writingStages laid out
+  unfolding layoutOf
+  left-are out =
+      text-after list doc out
+      ∙ ap (λ (s : Stage Checked). andThen s (writes list doc out)) (both-under list doc (b .first .stages) (b .second .stages))
+      ∙ ap (λ (o : Option Plan). writingStages (laidOut headers o) out) (plan .1)
+
+  -- what putting it asks and ensures
+  abbrev names : List ℕ
+  names = take (tableWords + k - tableWords) (drop tableWords work₁)
+
+  pub put-asked : Holds list work₁ n × (Ranged list work₁ n × (Places n names × (Holds doc work₂ m × Ranged doc work₂ m)))
+  put-asked = let l = b .first in let d = b .second in (l .table, (ranged list work₁ n (l .lexed), (part-places l, (d .table, ranged doc work₂ m (d .lexed)))))
+
+  pub put-ensured : {out out' : List ℕ} {s : Place}
+      → ((hs : List Header) (d : Document) (p : Plan) → Heads list work₁ n maxBrackets names hs → parseDocument (toks doc work₂ m 0) ≡ ok d [] → documentFaults hs d ≡ [] → planOf hs d ≡ some p → Written (document hs p) out out' s)
+      → Written laid out out' s
+  put-ensured f = f headers tree (plan .0) (part-heads (b .first)) (b .second .parsed) faultless (plan .1)
+
+  -- it was measured by putting it into no bytes
+  module _ (out : List ℕ) {none : List ℕ} {s : Place} (w : Written laid [] none s) where
+    unmoved : none ++ out ≡ out
+    unmoved = ap (λ (xs : List ℕ). xs ++ out) (w .bytes ∙ stored-none 0 (text laid))
+
+    same-length : length (none ++ out) ≡ length out
+    same-length = ap length unmoved
+
+    pub too-large : {r : Answer} → keepsLimits s ≡ false → r ≡ answer 25 0 0 0 → Wrote (textStages list doc (length out)) out (none ++ out) r
+    unfolding writingStages
+    too-large f a = let e = sym (limits-are w) ∙ f in wrote-stopped (left-are (length out) ∙ rw e) a unmoved
+
+    pub too-short : {r : Answer} → keepsLimits s ≡ true → length (none ++ out) < s .bytes → r ≡ answer 26 0 0 (s .bytes) → Wrote (textStages list doc (length out)) out (none ++ out) r
+    unfolding writingStages
+    too-short f l a =
+        let e = sym (limits-are w) ∙ f in
+        let c = all-counted w f in
+        let h = lt-leb (length (text laid)) (length out) (omega (arith, l, same-length, c)) in
+        wrote-stopped (left-are (length out) ∙ rw (e, h)) (a ∙ ap (λ (x : ℕ). answer 26 0 0 x) c) unmoved
+
+    pub all-written : {r : Answer} {out' : List ℕ} {s' : Place} → keepsLimits s ≡ true → s .bytes ≤ length (none ++ out) → Written laid (none ++ out) out' s' → r ≡ answer 0 0 0 (s .bytes)
+        → Wrote (textStages list doc (length out)) out out' r
+    unfolding writingStages outputAfter
+    all-written f l v a =
+        let e = sym (limits-are w) ∙ f in
+        let c = all-counted w f in
+        let g : length (text laid) ≤ length out = omega (arith, l, same-length, c) in
+        let h = le-leb (length (text laid)) (length out) g in
+        wrote-as {t = pass (text laid)} (left-are (length out) ∙ rw (e, h)) (a ∙ ap (λ (x : ℕ). answer 0 0 0 x) c)
+        (v .bytes ∙ ap (λ (xs : List ℕ). stored xs 0 (text laid)) unmoved ∙ stored-is out 0 (text laid) (omega (arith, g)) (omega (arith, c, bytes-few w)))
+
+-- ---- the guards
+
+-- after code 1 or 2 a work area is as it was
+kept : (work : List ℕ) {q r : Answer} → (eqb (q .code) 1 || eqb (q .code) 2) ≡ true → r ≡ q → work ≡ workAfter r work
+unfolding workAfter
+kept work h e = sym (rw (e, h))
+
+module _ (list doc work₁ work₂ out : List ℕ) where
+  abbrev room : Bool
+  room = leb workWords (length work₁) && leb workWords (length work₂)
+
+  abbrev stages : Stage (List ℕ)
+  stages = written list doc (length work₁) (length work₂) (length out)
+
+  pub room-parts : room ≡ true → (workWords ≤ length work₁) × (workWords ≤ length work₂)
+  room-parts e =
+      let a = and-eq-true-iff (leb workWords (length work₁)) (leb workWords (length work₂)) .0 e in
+      (leb-true workWords (length work₁) (a .0), leb-true workWords (length work₂) (a .1))
+
+  -- what canon ensures of its answer, of the output and of both work areas afterwards
+  abbrev Ensured : Answer → List ℕ → List ℕ → List ℕ → Type 0
+  Ensured r out' work₁' work₂' =
+      (r ≡ canonAnswer list doc (length work₁) (length work₂) (length out)) × ((out' ≡ outputAfter stages out) × ((work₁' ≡ workAfter r work₁) × (work₂' ≡ workAfter r work₂)))
+
+  -- a refusal by a guard
+  refused : {q r : Answer} → stages ≡ stop q → (eqb (q .code) 1 || eqb (q .code) 2) ≡ true → r ≡ q → Ensured r out work₁ work₂
+  unfolding canonAnswer
+  refused e h a = let w = wrote-stopped e a refl in (w .answered, (w .output, (kept work₁ h a, kept work₂ h a)))
+
+  pub refused-room : {r : Answer} → room ≡ false → r ≡ answer 1 0 0 0 → Ensured r out work₁ work₂
+  unfolding written
+  refused-room e a = refused (rw e) refl a
+
+  pub refused-list : {r : Answer} → room ≡ true → leb (length list) maxText ≡ false → r ≡ answer 2 1 maxText 0 → Ensured r out work₁ work₂
+  unfolding written
+  refused-list e f a = refused (rw (e, f)) refl a
+
+  pub refused-document : {r : Answer} → room ≡ true → leb (length list) maxText ≡ true → leb (length doc) maxText ≡ false → r ≡ answer 2 2 maxText 0 → Ensured r out work₁ work₂
+  unfolding written
+  refused-document e f g a = refused (rw (e, f, g)) refl a
+
+  -- the stages after the guards, then both work areas are cleared
+  pub ended : {r : Answer} {out' work₁' work₂' : List ℕ} {n m : ℕ} → room ≡ true → leb (length list) maxText ≡ true → leb (length doc) maxText ≡ true
+      → Wrote (textStages list doc (length out)) out out' r → work₁' ≡ replicate n 0 → n ≡ length work₁ → work₂' ≡ replicate m 0 → m ≡ length work₂ → Ensured r out' work₁' work₂'
+  unfolding canonAnswer written textStages
+  ended {r} {n = n} {m} e f g w z i y j =
+      let v = wrote-as {s = stages} (rw (e, f, g)) (w .answered) (w .output) in
+      (v .answered, (v .output, (z ∙ cleared n work₁ i, y ∙ cleared m work₂ j)))
+    where
+      cleared : (k : ℕ) (work : List ℕ) → k ≡ length work → replicate k 0 ≡ workAfter r work
+      cleared k work l = ap (λ (x : ℕ). replicate {A = ℕ} x 0) l ∙ cleared-after (textStages list doc (length out)) length (text-codes list doc (length out)) work (w .answered)

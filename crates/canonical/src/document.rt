@@ -1,0 +1,114 @@
+// The pieces of a whole document.
+use crate::call::put_calls;
+use crate::pattern::put_names;
+use crate::place::Place;
+use crate::place::put_spaced;
+use crate::place::put_token;
+use crate::place::put_word;
+use rules::graph::graph_at;
+ghost use mathlib.Core.Path.{_≡_};
+ghost use mathlib.Core.List.{List, [], _∷_};
+ghost use mathlib.Core.Option.{some};
+ghost use Rattle.lexis.specs.Ascii.{ascii};
+ghost use Rattle.lexis.specs.Kind as Kind;
+ghost use Rattle.lexis.specs.Lexer.{Token};
+ghost use Rattle.lexis.specs.Sizes.{maxBrackets};
+ghost use Rattle.syntax.specs.Symbol.{aName as nameSymbol, rightRound};
+ghost use Rattle.syntax.specs.Tree.{Header, Document};
+ghost use Rattle.syntax.specs.Parser.{expect, row, plain, commas, parseDocument};
+ghost use Rattle.syntax.specs.Parser.Parse.{ok};
+ghost use Rattle.syntax.specs.Table.{tokenAt, toks, Holds};
+ghost use Rattle.rules.specs.DocumentRules.{documentFaults};
+ghost use Rattle.rules.specs.Lists.{Heads, Places as NamePlaces};
+ghost use Rattle.canonical.specs.Plan.{Plan, planOf, spellings};
+ghost use Rattle.canonical.specs.Layout.{spaced, lined, aName, mark, names, document};
+ghost use Rattle.canonical.specs.Writing.{Puts, Ranged, Written};
+
+// Puts the version, the word `graph`, the graph's name and an opening bracket.
+fn put_title(out: &mut [u8], s: Place, text: &[u8], table: &[u32], n: usize) -> Place
+    requires { ⌜ Holds (now text) (now table) n ⌝ }
+    ensures { λ r. ⌜ ((d : Document) → parseDocument (toks (now (text .entry)) (now (table .entry)) n 0) ≡ ok d [] → Puts (λ q. spaced Kind.keyword (ascii "version") ∷ lined Kind.real (ascii "1.0") ∷ spaced Kind.keyword (ascii "graph") ∷ aName (d .graph .bytes) ∷ mark (ascii "(") ∷ q) (now (out .entry)) (now (out .exit)) s r) ⌝ }
+{
+    if n <= 3 {
+        return s;
+    }
+    let version = put_spaced(&mut *out, s, b"version", 32);
+    let literal = put_spaced(&mut *out, version, b"1.0", 10);
+    let word = put_spaced(&mut *out, literal, b"graph", 32);
+    let name = put_token(&mut *out, word, text, table, n, 3);
+    put_word(out, name, b"(")
+}
+
+// Puts what stands between the inputs and the outputs of a graph.
+fn put_arrow(out: &mut [u8], s: Place) -> Place
+    ensures { λ r. ⌜ Puts (λ q. mark (ascii ")") ∷ mark (ascii "->") ∷ mark (ascii "(") ∷ q) (now (out .entry)) (now (out .exit)) s r ⌝ }
+{
+    let close = put_word(&mut *out, s, b")");
+    let arrow = put_word(&mut *out, close, b"->");
+    put_word(out, arrow, b"(")
+}
+
+// Puts everything of a document before its calls; its outputs stand from place `outputs` on.
+fn put_header(
+    out: &mut [u8],
+    s: Place,
+    text: &[u8],
+    table: &[u32],
+    n: usize,
+    outputs: usize,
+) -> Place
+    requires { ⌜ Holds (now text) (now table) n ⌝ }
+    ensures { λ r. ⌜ ((d : Document) (us : List Token) → parseDocument (toks (now (text .entry)) (now (table .entry)) n 0) ≡ ok d [] →
+        row plain (commas rightRound) (expect nameSymbol) (toks (now (text .entry)) (now (table .entry)) n outputs) ≡ ok (d .outputs) us → Puts (λ q.
+        spaced Kind.keyword (ascii "version") ∷ lined Kind.real (ascii "1.0") ∷ spaced Kind.keyword (ascii "graph") ∷ aName (d .graph .bytes) ∷ mark (ascii "(")
+        ∷ names (spellings (d .inputs)) (mark (ascii ")") ∷ mark (ascii "->") ∷ mark (ascii "(")
+        ∷ names (spellings (d .outputs)) (lined Kind.syntactic (ascii ")") ∷ lined Kind.syntactic (ascii "{") ∷ q))) (now (out .entry)) (now (out .exit)) s r) ⌝ }
+{
+    let title = put_title(&mut *out, s, text, table, n);
+    let ins = put_names(&mut *out, title, text, table, n, 5);
+    let arrow = put_arrow(&mut *out, ins);
+    let outs = put_names(&mut *out, arrow, text, table, n, outputs);
+    let close = put_spaced(&mut *out, outs, b")", 10);
+    put_spaced(out, close, b"{", 10)
+}
+
+// Puts the canonical text of a document that has passed its stages, from the first byte on.
+pub fn put_document(
+    out: &mut [u8],
+    ltext: &[u8],
+    ltable: &[u32],
+    ln: usize,
+    names: &[u32],
+    dtext: &[u8],
+    dtable: &[u32],
+    dn: usize,
+) -> Place
+    requires { ⌜ Holds (now ltext) (now ltable) ln ⌝ }
+    requires { ⌜ Ranged (now ltext) (now ltable) ln ⌝ }
+    requires { ⌜ NamePlaces ln (now names) ⌝ }
+    requires { ⌜ Holds (now dtext) (now dtable) dn ⌝ }
+    requires { ⌜ Ranged (now dtext) (now dtable) dn ⌝ }
+    ensures { λ r. ⌜ ((hs : List Header) (d : Document) (p : Plan) → Heads (now (ltext .entry)) (now (ltable .entry)) ln maxBrackets (now (names .entry)) hs → parseDocument (toks (now (dtext .entry)) (now (dtable .entry)) dn 0) ≡ ok d [] →
+        documentFaults hs d ≡ [] → planOf hs d ≡ some p → Written (document hs p) (now (out .entry)) (now (out .exit)) r) ⌝ }
+{
+    let graph = graph_at(dtext, dtable, dn);
+    let start = Place {
+        bytes: 0,
+        tokens: 0,
+    };
+    let header = put_header(&mut *out, start, dtext, dtable, dn, graph.outputs);
+    let calls = put_calls(
+        &mut *out,
+        header,
+        ltext,
+        ltable,
+        ln,
+        names,
+        dtext,
+        dtable,
+        dn,
+        graph.body,
+        graph.end,
+    );
+    put_spaced(out, calls, b"}", 10)
+}
