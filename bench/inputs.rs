@@ -25,11 +25,24 @@ pub fn texts() -> Vec<(&'static str, Vec<u8>)> {
 pub fn pairs() -> Vec<(&'static str, Pair)> {
     vec![
         ("candidate graph", candidates()),
-        ("many calls", many_calls()),
+        ("many calls", many_calls(384)),
         ("many identifiers", many_identifiers()),
-        ("deep arrays", deep_arrays()),
+        ("deep arrays", deep_arrays(95)),
         ("many parameters", many_parameters()),
     ]
+}
+
+/// The pairs for `canon`, with their names: those for `check`, of which two have
+/// a canonical text beyond the limits; these two with fewer calls, so that it
+/// keeps them; and one whose canonical text is nearly all defaults.
+pub fn canon_pairs() -> Vec<(&'static str, Pair)> {
+    let mut all = pairs();
+    all.extend([
+        ("fewer calls", many_calls(120)),
+        ("fewer deep arrays", deep_arrays(91)),
+        ("31 defaults a call", many_defaults()),
+    ]);
+    all
 }
 
 /// So many lines in a row; the counts come near the limits of 16,384 bytes or
@@ -77,21 +90,21 @@ fn strings(place: usize) -> String {
 }
 
 fn candidates() -> Pair {
-    let list: &[u8] = include_bytes!("operations.nnef");
-    let document: &[u8] = include_bytes!("candidates.nnef");
+    let list: &[u8] = include_bytes!("../examples/declarations.nnef");
+    let document: &[u8] = include_bytes!("../examples/candidates.nnef");
     Pair {
         list: list.to_vec(),
         document: document.to_vec(),
     }
 }
 
-/// 384 calls under 80 operations.
-fn many_calls() -> Pair {
+/// So many calls under 80 operations.
+fn many_calls(count: usize) -> Pair {
     pair(
         lines(79, correction),
         "star_0",
-        "star_383",
-        lines(383, correction_call),
+        &format!("star_{}", count - 1),
+        lines(count - 1, correction_call),
     )
 }
 
@@ -136,13 +149,14 @@ fn star(place: usize) -> String {
     format!("star{place}")
 }
 
-/// Eight brackets open in every default, and in two arguments of every call.
-fn deep_arrays() -> Pair {
+/// So many calls, with eight brackets open in every default, and in two
+/// arguments of every call but the first.
+fn deep_arrays(count: usize) -> Pair {
     pair(
         lines(60, deep_operation),
         "star0",
-        "star94",
-        lines(94, deep_call),
+        &star(count - 1),
+        lines(count - 1, deep_call),
     )
 }
 
@@ -210,6 +224,30 @@ fn wide_call(place: usize) -> String {
         star(place + 1),
         joined(arguments)
     )
+}
+
+/// An operation of 32 parameters, of which 31 have a default, and calls that name
+/// the other one. The canonical text comes near both limits.
+fn many_defaults() -> Pair {
+    let parameters = (1..32).map(|n| match n % 3 {
+        0 => format!("limit_{n}: extent = {n}"),
+        1 => format!("limit_{n}: scalar = {n}.5"),
+        _ => format!("limit_{n}: string = 'band {n}'"),
+    });
+    let operation = format!(
+        "fragment choose(star: tensor, {}) -> (y: tensor)\n",
+        joined(parameters)
+    );
+    pair(
+        operation.into_bytes(),
+        "star0",
+        "star30",
+        lines(30, default_call),
+    )
+}
+
+fn default_call(place: usize) -> String {
+    format!("{} = choose(star = {});\n", star(place + 1), star(place))
 }
 
 fn joined(items: impl Iterator<Item = String>) -> String {

@@ -13,12 +13,13 @@ const TABLE_WORDS: usize = 12_288;
 const WORK_WORDS: usize = 16_384;
 const CALL_WORDS: usize = 1_536;
 const WIRE_WORDS: usize = 2_048;
+const OUT_BYTES: usize = 16_384;
 
-/// Rounds that the medians are taken over, of `tokens` and of `check`.
+/// Rounds that the medians are taken over, of `tokens`, and of `check` and `canon`.
 const TOKENS_ROUNDS: usize = 2_001;
 const CHECK_ROUNDS: usize = 501;
 
-/// The heads of the columns that both tables end with.
+/// The heads of the columns that all tables end with.
 const TIMES: &str = "  library ns   reference ns  ratio";
 
 const TOKENS: Sides<[u8], [u32]> = Sides {
@@ -34,6 +35,11 @@ const DECLARATIONS: Sides<[u8], [u32]> = Sides {
 const CHECK: Sides<Pair, Lent> = Sides {
     library: library_check,
     reference: reference_check,
+};
+
+const CANON: Sides<Pair, CanonLent> = Sides {
+    library: library_canon,
+    reference: reference_canon,
 };
 
 /// What `check` is lent.
@@ -52,6 +58,24 @@ impl Lent {
             document_work: vec![7; WORK_WORDS],
             calls: vec![7; CALL_WORDS],
             wires: vec![7; WIRE_WORDS],
+        }
+    }
+}
+
+/// What `canon` is lent.
+#[derive(PartialEq)]
+struct CanonLent {
+    list_work: Vec<u32>,
+    document_work: Vec<u32>,
+    out: Vec<u8>,
+}
+
+impl CanonLent {
+    fn new() -> CanonLent {
+        CanonLent {
+            list_work: vec![7; WORK_WORDS],
+            document_work: vec![7; WORK_WORDS],
+            out: vec![7; OUT_BYTES],
         }
     }
 }
@@ -80,10 +104,34 @@ fn reference_check(pair: &Pair, lent: &mut Lent) -> [u32; 4] {
     .numbers()
 }
 
+fn library_canon(pair: &Pair, lent: &mut CanonLent) -> [u32; 4] {
+    library::canon(
+        &pair.list,
+        &pair.document,
+        &mut lent.list_work,
+        &mut lent.document_work,
+        &mut lent.out,
+    )
+    .numbers()
+}
+
+fn reference_canon(pair: &Pair, lent: &mut CanonLent) -> [u32; 4] {
+    nnef_reference::canon(
+        &pair.list,
+        &pair.document,
+        &mut lent.list_work,
+        &mut lent.document_work,
+        &mut lent.out,
+    )
+    .numbers()
+}
+
 fn main() {
     time_tokens();
     println!();
     time_check();
+    println!();
+    time_canon();
 }
 
 fn time_tokens() {
@@ -106,10 +154,34 @@ fn time_check() {
     for (name, pair) in inputs::pairs() {
         let operations = counted(&DECLARATIONS, name, &pair.list, WORK_WORDS);
         let mut lent = Lent::new();
-        let calls = CHECK.agreed(name, &pair, &mut lent, &mut Lent::new());
+        let answer = CHECK.agreed(name, &pair, &mut lent, &mut Lent::new());
+        let calls = accepted(name, answer);
         let times = CHECK.measured(CHECK_ROUNDS, &pair, &mut lent);
         print!("{name:<18} {:>6} {operations:>10} ", pair.list.len());
         print!("{:>8} {calls:>5} ", pair.document.len());
+        worst = worst.max(print_times(times));
+    }
+    println!("worst ratio {worst:.2}");
+}
+
+/// A row of `canon` has its canonical text's bytes, or the code of its refusal.
+fn time_canon() {
+    print!("{:<18} {:>6} {:>8} ", "canon of", "list", "document");
+    println!("{:>7} {TIMES}", "bytes");
+    let mut worst: f64 = 0.0;
+    for (name, pair) in inputs::canon_pairs() {
+        let mut lent = CanonLent::new();
+        let bytes = match CANON.agreed(name, &pair, &mut lent, &mut CanonLent::new()) {
+            [0, _, _, bytes] => bytes.to_string(),
+            [code, ..] => format!("code {code}"),
+        };
+        let times = CANON.measured(CHECK_ROUNDS, &pair, &mut lent);
+        print!(
+            "{name:<18} {:>6} {:>8} ",
+            pair.list.len(),
+            pair.document.len()
+        );
+        print!("{bytes:>7} ");
         worst = worst.max(print_times(times));
     }
     println!("worst ratio {worst:.2}");
@@ -124,5 +196,12 @@ fn print_times((library, reference): (f64, f64)) -> f64 {
 
 /// The count that both sides answer for one text, with so many words lent.
 fn counted(sides: &Sides<[u8], [u32]>, name: &str, text: &[u8], words: usize) -> u32 {
-    sides.agreed(name, text, &mut vec![7; words], &mut vec![7; words])
+    let answer = sides.agreed(name, text, &mut vec![7; words], &mut vec![7; words]);
+    accepted(name, answer)
+}
+
+/// The count of an answer, which must be acceptance.
+fn accepted(name: &str, answer: [u32; 4]) -> u32 {
+    assert_eq!(answer[0], 0, "{name}: the input is refused");
+    answer[3]
 }

@@ -16,15 +16,14 @@ pub struct Sides<Input: ?Sized, Lent: ?Sized> {
 }
 
 impl<Input: ?Sized, Lent: ?Sized + PartialEq> Sides<Input, Lent> {
-    /// The count that both sides answer; they must accept the input and agree
-    /// in the answer and in what they leave in equal buffers.
-    pub fn agreed(&self, name: &str, input: &Input, one: &mut Lent, other: &mut Lent) -> u32 {
+    /// What both sides answer; they must agree in the answer and in what they
+    /// leave in equal buffers.
+    pub fn agreed(&self, name: &str, input: &Input, one: &mut Lent, other: &mut Lent) -> [u32; 4] {
         let library = (self.library)(input, one);
         let reference = (self.reference)(input, other);
         assert_eq!(library, reference, "{name}: the answers differ");
-        assert_eq!(library[0], 0, "{name}: the input is refused");
         assert!(one == other, "{name}: the buffers differ");
-        library[3]
+        library
     }
 
     /// The median times of a call in nanoseconds: the library's and the reference's.

@@ -37,13 +37,14 @@ typedef struct nnef_answer {
     uint32_t code;     /* one of enum nnef_code; 0 when the text is accepted */
     uint32_t text;     /* the text with the fault: 1 the list or the only one, 2 the document, 0 none */
     uint32_t position; /* the fault's place in that text, in bytes from 0 */
-    uint32_t detail;   /* after acceptance a count; with code 19 a parameter's index; else 0 */
+    uint32_t detail;   /* after acceptance a count; with code 19 a parameter's index; with code 26 a length; else 0 */
 } nnef_answer;
 
 /*
  * Codes. When a text has several faults, the answer gives the one with the
  * smallest position, and of those at one position the one with the smallest
- * code. NNEF_TABLE_TOO_SHORT comes before all others, then NNEF_TEXT_TOO_LONG.
+ * code. NNEF_TABLE_TOO_SHORT comes before all others, then NNEF_TEXT_TOO_LONG;
+ * NNEF_CANON_TOO_LONG comes after those of both texts, NNEF_OUT_TOO_SHORT last.
  */
 enum nnef_code {
     NNEF_ACCEPTED = 0,        /* the text is good; position is 0 */
@@ -70,7 +71,9 @@ enum nnef_code {
     NNEF_AGAIN = 21,          /* an identifier is assigned again */
     NNEF_UNASSIGNED = 22,     /* an identifier is used that no earlier call assigns */
     NNEF_MISFED = 23,         /* an input is not assigned by `external`, or another identifier is */
-    NNEF_UNMADE = 24          /* an output is never assigned */
+    NNEF_UNMADE = 24,         /* an output is never assigned */
+    NNEF_CANON_TOO_LONG = 25, /* the canonical text has more than 16384 bytes or 4096 tokens; text and position are 0 */
+    NNEF_OUT_TOO_SHORT = 26   /* the lent output is shorter than the canonical text; text and position are 0, detail is its length */
 };
 
 /*
@@ -136,6 +139,24 @@ nnef_answer nnef_check(const uint8_t *list, size_t list_len,
                        uint32_t *document_work, size_t document_work_len,
                        uint32_t *calls, size_t calls_len,
                        uint32_t *wires, size_t wires_len);
+
+/*
+ * Writes the canonical text of a document under an operation list. The two
+ * work areas have at least NNEF_WORK_WORDS words each, `out` has any number of
+ * bytes, and NNEF_TEXT_BYTES are always enough; none may overlap.
+ *
+ * When the document is accepted, detail is the number of bytes written, which
+ * are the first of `out`; those behind them keep what they held. When anything
+ * is refused, the whole output keeps what it held. Under one list, two documents
+ * have the same canonical text exactly when they say the same, defaults filled
+ * in; a canonical text is its own. After any answer but NNEF_TABLE_TOO_SHORT
+ * and NNEF_TEXT_TOO_LONG the work areas are zero.
+ */
+nnef_answer nnef_canon(const uint8_t *list, size_t list_len,
+                       const uint8_t *document, size_t document_len,
+                       uint32_t *list_work, size_t list_work_len,
+                       uint32_t *document_work, size_t document_work_len,
+                       uint8_t *out, size_t out_len);
 
 #ifdef __cplusplus
 }

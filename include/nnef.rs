@@ -41,6 +41,18 @@ extern "C" {
         wires: *mut u32,
         wires_len: usize,
     ) -> Answer;
+    fn nnef_canon(
+        list: *const u8,
+        list_len: usize,
+        document: *const u8,
+        document_len: usize,
+        list_work: *mut u32,
+        list_work_len: usize,
+        document_work: *mut u32,
+        document_work_len: usize,
+        out: *mut u8,
+        out_len: usize,
+    ) -> Answer;
 }
 
 /// Splits a text into tokens.
@@ -80,6 +92,31 @@ pub fn check(
             calls.len(),
             wires.as_mut_ptr(),
             wires.len(),
+        )
+    }
+}
+
+/// Writes the canonical text of a document under an operation list.
+pub fn canon(
+    list: &[u8],
+    document: &[u8],
+    list_work: &mut [u32],
+    document_work: &mut [u32],
+    out: &mut [u8],
+) -> Answer {
+    // SAFETY: as for `check`.
+    unsafe {
+        nnef_canon(
+            list.as_ptr(),
+            list.len(),
+            document.as_ptr(),
+            document.len(),
+            list_work.as_mut_ptr(),
+            list_work.len(),
+            document_work.as_mut_ptr(),
+            document_work.len(),
+            out.as_mut_ptr(),
+            out.len(),
         )
     }
 }

@@ -6,11 +6,27 @@
 
 static const char TEXT[] = "out = scale(px, by = 0.50);";
 
+static const char LIST[] =
+    "fragment external(shape: extent[]) -> (output: tensor) "
+    "fragment scale(x: tensor, by: scalar = 1) -> (y: tensor)";
+static const char DOCUMENT[] =
+    "version 1.0 graph win(px) -> (out) { px = external(shape=[01,9]); out = scale(px, by=0.50) }";
+static const char CANONICAL[] =
+    "version 1.0\ngraph win(px)->(out)\n{\npx=external(shape=[1,9]);\nout=scale(x=px,by=5e-1);\n}\n";
+
 static uint32_t table[NNEF_TABLE_WORDS];
+static uint32_t list_work[NNEF_WORK_WORDS], document_work[NNEF_WORK_WORDS];
+static uint8_t out[NNEF_TEXT_BYTES];
 
 static nnef_answer tokens_of(const char *text, size_t table_len)
 {
     return nnef_tokens((const uint8_t *)text, strlen(text), table, table_len);
+}
+
+static nnef_answer canon_of(const char *document, size_t work_len, size_t out_len)
+{
+    return nnef_canon((const uint8_t *)LIST, strlen(LIST), (const uint8_t *)document, strlen(document),
+                      list_work, NNEF_WORK_WORDS, document_work, work_len, out, out_len);
 }
 
 static int answers(nnef_answer a, uint32_t code, uint32_t text, uint32_t position, uint32_t detail)
@@ -34,7 +50,13 @@ int main(void)
         && holds(11, 0, 0, 0)
         && answers(tokens_of("", NNEF_TABLE_WORDS), NNEF_ACCEPTED, 0, 0, 0)
         && answers(tokens_of("a = 1.", NNEF_TABLE_WORDS), NNEF_NUMBER_MISSPELT, 1, 4, 0)
-        && answers(tokens_of(TEXT, NNEF_TABLE_WORDS - 1), NNEF_TABLE_TOO_SHORT, 0, 0, 0);
+        && answers(tokens_of(TEXT, NNEF_TABLE_WORDS - 1), NNEF_TABLE_TOO_SHORT, 0, 0, 0)
+        && answers(canon_of(DOCUMENT, NNEF_WORK_WORDS - 1, NNEF_TEXT_BYTES), NNEF_TABLE_TOO_SHORT, 0, 0, 0)
+        && answers(canon_of("version 1.0", NNEF_WORK_WORDS, NNEF_TEXT_BYTES), NNEF_SYNTAX, 2, 11, 0)
+        && answers(canon_of(DOCUMENT, NNEF_WORK_WORDS, 87), NNEF_OUT_TOO_SHORT, 0, 0, 88)
+        && out[0] == 0
+        && answers(canon_of(DOCUMENT, NNEF_WORK_WORDS, NNEF_TEXT_BYTES), NNEF_ACCEPTED, 0, 0, 88)
+        && memcmp(out, CANONICAL, sizeof CANONICAL) == 0;
     puts(good ? "from C: as the header says" : "from C: WRONG");
     return good ? 0 : 1;
 }

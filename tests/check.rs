@@ -340,7 +340,7 @@ fn tables_are_sound(checked: &Outcome) -> bool {
 /// Whether a pair that was made good, lent enough, has the tables that it was made with.
 fn is_as_made(pair: &Pair, room: [usize; 4], declared: &Outcome, checked: &Outcome) -> bool {
     let enough = room.iter().zip(ROOM).all(|(lent, asked)| *lent >= asked);
-    match &pair.tables {
+    match &pair.good {
         Some(made) if enough => {
             declared.answer == [0, 0, 0, made.operations]
                 && checked.answer == [0, 0, 0, made.calls.len() as u32 / 4]

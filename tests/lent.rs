@@ -1,6 +1,9 @@
-//! What operations are lent: texts with other bytes behind them, tables between guards.
+//! What operations are lent: texts with other bytes behind them, tables and
+//! outputs between guards.
 
-/// Words kept before and behind every lent table.
+use std::sync::LazyLock;
+
+/// Words, or bytes, kept before and behind what is lent to be written.
 pub const GUARD: usize = 16;
 
 /// Bytes that stand behind every lent text; most tokens could run on into them.
@@ -23,15 +26,22 @@ impl LentText {
     }
 }
 
+/// What stands in tables and outputs before the run; more is never lent.
+static WORDS: LazyLock<Vec<u32>> = LazyLock::new(|| (0..65_536).map(|n| 0xA5A5_0000 ^ n).collect());
+static BYTES: LazyLock<Vec<u8>> = LazyLock::new(|| (0..65_536).map(|n| 0x80 | n as u8).collect());
+
 /// A table of this length and its guards before the run.
 pub fn pattern(table_words: usize) -> Vec<u32> {
-    (0..(table_words + 2 * GUARD) as u32)
-        .map(|place| 0xA5A5_0000 ^ place)
-        .collect()
+    WORDS[..table_words + 2 * GUARD].to_vec()
 }
 
-/// The lent part of a table with its guards.
-pub fn lent(words: &mut [u32]) -> &mut [u32] {
-    let end = words.len() - GUARD;
-    &mut words[GUARD..end]
+/// An output of this length and its guards before the run.
+pub fn byte_pattern(bytes: usize) -> Vec<u8> {
+    BYTES[..bytes + 2 * GUARD].to_vec()
+}
+
+/// The lent part of a table or an output with its guards.
+pub fn lent<T>(items: &mut [T]) -> &mut [T] {
+    let end = items.len() - GUARD;
+    &mut items[GUARD..end]
 }

@@ -1,15 +1,18 @@
 //! Compares the library with the reference and with written answers.
 //!
 //! Arguments: the number of random texts, and of random pairs of texts
-//! (100000), and the seed (1).
+//! (100000; of families of pairs a tenth), and the seed (1).
 
 #[path = "../include/nnef.rs"]
 mod library;
 
+mod canon;
 mod check;
 mod lent;
+mod processors;
 mod program;
 mod tokens;
+mod written;
 
 use program::number;
 use std::process::ExitCode;
@@ -20,7 +23,8 @@ fn main() -> ExitCode {
     let seed = number(arguments.next(), 1);
     let tokens = tokens::run(count, seed);
     let check = check::run(count, seed);
-    if tokens && check {
+    let canon = canon::run(count, seed);
+    if tokens && check && canon {
         ExitCode::SUCCESS
     } else {
         ExitCode::FAILURE

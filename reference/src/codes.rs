@@ -48,3 +48,7 @@ pub const NOT_ASSIGNED: u32 = 22;
 pub const EXTERNAL: u32 = 23;
 /// An output is never assigned.
 pub const NO_OUTPUT: u32 = 24;
+/// The canonical text has more bytes or tokens than a text may have.
+pub const CANONICAL_TOO_LONG: u32 = 25;
+/// The lent output is shorter than the canonical text.
+pub const OUTPUT_TOO_SHORT: u32 = 26;

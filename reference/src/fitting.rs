@@ -24,7 +24,7 @@ pub fn fits(value: &Value, ty: &Type) -> bool {
 fn literal_fits(kind: Kind, bytes: &[u8], ty: &Type) -> bool {
     match ty {
         Type::Tensor => matches!(kind, Kind::Whole | Kind::Real | Kind::Logical),
-        Type::Extent => kind == Kind::Whole && is_extent(bytes),
+        Type::Extent => kind == Kind::Whole && extent(bytes).is_some(),
         Type::Scalar => matches!(kind, Kind::Whole | Kind::Real),
         Type::Logical => kind == Kind::Logical,
         Type::String => kind == Kind::String,
@@ -32,12 +32,10 @@ fn literal_fits(kind: Kind, bytes: &[u8], ty: &Type) -> bool {
     }
 }
 
-/// Whether a whole number is small enough for an extent.
-fn is_extent(bytes: &[u8]) -> bool {
+/// The value of a whole number, if it is small enough for an extent.
+pub fn extent(bytes: &[u8]) -> Option<u64> {
     let (parts, _) = Parts::at(bytes, 0);
-    parts
-        .reduced()
-        .is_some_and(|value| value.is_at_most(limits::EXTENT))
+    parts.reduced()?.at_most(limits::EXTENT)
 }
 
 /// Whether a type is tensor, an array of such, or a tuple of only such.

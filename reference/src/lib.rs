@@ -2,6 +2,7 @@
 //! proved library is tested against it and timed beside it.
 
 mod binding;
+mod canonical;
 mod codes;
 mod fault;
 mod fitting;
@@ -10,17 +11,21 @@ mod lexer;
 mod limits;
 mod number;
 mod parser;
+mod plan;
 mod rules;
 mod rules_document;
 mod rules_list;
 mod tree;
 
+use canonical::canonical_text;
 use fault::Fault;
 use graph::Graph;
 use lexer::Token;
+use plan::Plan;
 use tree::Operation;
 
-/// The text numbers of answers: the operation list or the sole text, and the document.
+/// The text numbers of answers: none, the operation list or the sole text, and the document.
+const NO_TEXT: u32 = 0;
 const LIST: u32 = 1;
 const DOCUMENT: u32 = 2;
 
@@ -33,7 +38,8 @@ pub struct Answer {
     pub text: u32,
     /// The fault's place in that text, in bytes.
     pub position: u32,
-    /// The count after acceptance; at code 19 the parameter's index; else 0.
+    /// The count after acceptance; at code 19 the parameter's index; at code 26
+    /// the canonical text's length; else 0.
     pub detail: u32,
 }
 
@@ -52,12 +58,7 @@ impl Answer {
     }
 
     fn room_too_short() -> Answer {
-        Answer {
-            code: codes::ROOM_TOO_SHORT,
-            text: 0,
-            position: 0,
-            detail: 0,
-        }
+        Answer::refused(NO_TEXT, Fault::new(codes::ROOM_TOO_SHORT, 0))
     }
 
     fn refused(text: u32, fault: Fault) -> Answer {
@@ -117,33 +118,60 @@ pub fn check(
     calls: &mut [u32],
     wires: &mut [u32],
 ) -> Answer {
-    if list_work.len() < limits::WORK_WORDS
-        || document_work.len() < limits::WORK_WORDS
-        || calls.len() < limits::CALL_WORDS
-        || wires.len() < limits::WIRE_WORDS
-    {
+    if calls.len() < limits::CALL_WORDS || wires.len() < limits::WIRE_WORDS {
         return Answer::room_too_short();
     }
-    if let Err(fault) = lexer::length(list) {
-        return Answer::refused(LIST, fault);
-    }
-    if let Err(fault) = lexer::length(document) {
-        return Answer::refused(DOCUMENT, fault);
-    }
-    list_work.fill(0);
-    document_work.fill(0);
-    let operations = match good_list(list) {
-        Err(fault) => return Answer::refused(LIST, fault),
-        Ok(operations) => operations,
-    };
-    match good_document(&operations, document) {
-        Err(fault) => Answer::refused(DOCUMENT, fault),
-        Ok(tables) => {
-            calls[..tables.calls.len()].copy_from_slice(&tables.calls);
-            wires[..tables.wires.len()].copy_from_slice(&tables.wires);
-            Answer::accepted(tables.calls.len() / 4)
+    judged(list, document, [list_work, document_work], |_, graph| {
+        let call_table = graph.call_table();
+        let wire_table = graph.wire_table();
+        calls[..call_table.len()].copy_from_slice(&call_table);
+        wires[..wire_table.len()].copy_from_slice(&wire_table);
+        Answer::accepted(graph.calls.len())
+    })
+}
+
+/// Writes the canonical text of a document under an operation list and counts
+/// its bytes. The output may have any length; it is changed only on acceptance,
+/// and then only over the text. The work areas are zero afterwards, but for
+/// codes 1 and 2, which leave them as they were.
+pub fn canon(
+    list: &[u8],
+    document: &[u8],
+    list_work: &mut [u32],
+    document_work: &mut [u32],
+    out: &mut [u8],
+) -> Answer {
+    judged(list, document, [list_work, document_work], |list, graph| {
+        let plan = Plan::new(graph).expect("a document without faults has a plan");
+        let text = canonical_text(&plan, list);
+        let length = text.bytes.len();
+        if !text.keeps_limits() {
+            return Answer::refused(NO_TEXT, Fault::new(codes::CANONICAL_TOO_LONG, 0));
         }
-    }
+        if out.len() < length {
+            let fault = Fault {
+                detail: length as u32,
+                ..Fault::new(codes::OUTPUT_TOO_SHORT, 0)
+            };
+            return Answer::refused(NO_TEXT, fault);
+        }
+        out[..length].copy_from_slice(&text.bytes);
+        Answer::accepted(length)
+    })
+}
+
+/// Whether two documents are accepted under an operation list and have the same plan.
+pub fn same_plan(list: &[u8], one: &[u8], other: &[u8]) -> bool {
+    let compare = || {
+        for text in [list, one, other] {
+            lexer::length(text)?;
+        }
+        let list = good_list(list)?;
+        good_document(&list, one, |one| {
+            good_document(&list, other, |other| Plan::new(one) == Plan::new(other))
+        })?
+    };
+    compare() == Ok(true)
 }
 
 /// Reads a text as an operation list, without its rules, and counts its tokens.
@@ -171,6 +199,30 @@ fn syntax(text: &[u8], parse: impl Fn(&[Token]) -> Result<(), Fault>) -> Answer 
     }
 }
 
+/// Holds a document against an operation list, stage by stage: the first fault,
+/// or what `make` answers when there is none.
+fn judged(
+    list: &[u8],
+    document: &[u8],
+    work: [&mut [u32]; 2],
+    make: impl FnOnce(&[Operation], &Graph) -> Answer,
+) -> Answer {
+    if work.iter().any(|area| area.len() < limits::WORK_WORDS) {
+        return Answer::room_too_short();
+    }
+    for (number, text) in [(LIST, list), (DOCUMENT, document)] {
+        if let Err(fault) = lexer::length(text) {
+            return Answer::refused(number, fault);
+        }
+    }
+    work.into_iter().for_each(|area| area.fill(0));
+    match good_list(list) {
+        Err(fault) => Answer::refused(LIST, fault),
+        Ok(list) => good_document(&list, document, |graph| make(&list, graph))
+            .unwrap_or_else(|fault| Answer::refused(DOCUMENT, fault)),
+    }
+}
+
 /// The operations of a list that has no fault.
 fn good_list(text: &[u8]) -> Result<Vec<Operation<'_>>, Fault> {
     let tokens = lexer::lex(text)?;
@@ -179,20 +231,15 @@ fn good_list(text: &[u8]) -> Result<Vec<Operation<'_>>, Fault> {
     Ok(operations)
 }
 
-/// What check writes.
-struct Tables {
-    calls: Vec<u32>,
-    wires: Vec<u32>,
-}
-
-/// The tables of a document that has no fault.
-fn good_document(list: &[Operation], text: &[u8]) -> Result<Tables, Fault> {
+/// What `make` makes of a document that has no fault under the list.
+fn good_document<T>(
+    list: &[Operation],
+    text: &[u8],
+    make: impl FnOnce(&Graph) -> T,
+) -> Result<T, Fault> {
     let tokens = lexer::lex(text)?;
     let document = parser::document(text, &tokens)?;
     let graph = Graph::new(list, &document);
     fault::none_of(rules_document::faults(&graph))?;
-    Ok(Tables {
-        calls: graph.call_table(),
-        wires: graph.wire_table(),
-    })
+    Ok(make(&graph))
 }

@@ -97,12 +97,11 @@ impl<'a> Parts<'a> {
 }
 
 impl Reduced {
-    /// Whether a whole number's value is at most `bound`.
-    pub fn is_at_most(self, bound: u64) -> bool {
-        let value = 10u64
-            .checked_pow(self.exponent as u32)
-            .and_then(|power| power.checked_mul(self.mantissa));
-        value.is_some_and(|value| value <= bound)
+    /// A whole number's value, if it is at most `bound`.
+    pub fn at_most(self, bound: u64) -> Option<u64> {
+        let power = 10u64.checked_pow(self.exponent as u32)?;
+        let value = power.checked_mul(self.mantissa)?;
+        (value <= bound).then_some(value)
     }
 }
 

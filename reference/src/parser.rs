@@ -132,7 +132,7 @@ impl<'a, 't> Reader<'a, 't> {
         self.expect("version")?;
         let version = self.number()?;
         self.expect("graph")?;
-        self.name()?;
+        let name = self.name()?;
         self.expect("(")?;
         let inputs = self.several(Self::name)?;
         self.expect(")")?;
@@ -147,6 +147,7 @@ impl<'a, 't> Reader<'a, 't> {
         }
         Ok(Document {
             version,
+            name,
             inputs,
             outputs,
             calls,

@@ -54,10 +54,11 @@ pub enum Form<'a> {
     Tuple(Vec<Value<'a>>),
 }
 
-/// A document: its version, its graph's inputs and outputs, and its body.
+/// A document: its version, its graph's name, inputs and outputs, and its body.
 #[derive(Debug)]
 pub struct Document<'a> {
     pub version: Value<'a>,
+    pub name: Name<'a>,
     pub inputs: Vec<Name<'a>>,
     pub outputs: Vec<Name<'a>>,
     pub calls: Vec<Call<'a>>,

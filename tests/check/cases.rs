@@ -1,42 +1,9 @@
 //! Written cases for `declarations` and `check`: texts, what is lent, and what
 //! is to come of them by the rules. They lie on either side of every limit.
-//!
-//! In a text `@` marks the place of the fault, and is taken out. In a piece that
-//! is repeated `%` stands for the number of the repetition, from 0.
 
 use super::ROOM;
-use Text::{Body, Once, Pieces};
-
-#[derive(Clone, Copy)]
-pub enum Text {
-    Once(&'static str),
-    /// Calls of a graph with the output `z` and the input `a`, which is assigned already.
-    Body(&'static str),
-    /// Pieces one after another, each as many times as it says.
-    Pieces(&'static [(&'static str, usize)]),
-}
-
-impl Text {
-    pub fn bytes(self) -> Vec<u8> {
-        self.marked().replace('@', "").into_bytes()
-    }
-
-    /// The place of the fault, if it is in this text.
-    fn mark(self) -> Option<usize> {
-        self.marked().find('@')
-    }
-
-    fn marked(self) -> String {
-        match self {
-            Once(text) => text.to_string(),
-            Body(calls) => format!("{BODY}{calls}}}"),
-            Pieces(pieces) => pieces
-                .iter()
-                .flat_map(|(piece, times)| (0..*times).map(|n| piece.replace('%', &n.to_string())))
-                .collect(),
-        }
-    }
-}
+use crate::written::Text::{self, Body, Once, Pieces};
+use crate::written::{at_mark, CANONICAL_EXAMPLE, EXAMPLE, EXAMPLE_LIST, OPERATIONS};
 
 /// A case for `declarations`.
 pub struct ListCase {
@@ -71,12 +38,7 @@ impl ListCase {
 
 impl PairCase {
     pub fn answer(&self) -> [u32; 4] {
-        let [code, text, position, detail] = self.answer;
-        match (self.list.mark(), self.document.mark()) {
-            (Some(mark), _) => [code, 1, mark as u32, detail],
-            (None, Some(mark)) => [code, 2, mark as u32, detail],
-            (None, None) => [code, text, position, detail],
-        }
+        at_mark(self.answer, self.list, self.document)
     }
 }
 
@@ -164,35 +126,6 @@ const fn long(text: u32, list: Text, document: Text) -> PairCase {
 const fn lent(room: [usize; 4], case: PairCase) -> PairCase {
     PairCase { room, ..case }
 }
-
-const BODY: &str = "version 1.0 graph g(a)->(z){a=external(shape=[1]);";
-
-/// The list and the documents of the worked example.
-const EXAMPLE_LIST: Text = Once(
-    "fragment external(shape: extent[]) -> (output: tensor) \
-     fragment scale(x: tensor, by: scalar = 1) -> (y: tensor)",
-);
-const EXAMPLE: Text = Once(
-    "version 1.0 graph win(px) -> (out) { px = external(shape=[01,9]); out = scale(px, by=0.50) }",
-);
-const CANONICAL_EXAMPLE: Text = Once(
-    "version 1.0\ngraph win(px)->(out)\n{\npx=external(shape=[1,9]);\nout=scale(x=px,by=5e-1);\n}\n",
-);
-
-/// Operations for most cases.
-const OPERATIONS: Text = Once(
-    "fragment external(shape: extent[]) -> (output: tensor) \
-     fragment scale(x: tensor, by: scalar = 1) -> (y: tensor) \
-     fragment split(x: tensor, parts: extent) -> (left: tensor, right: tensor) \
-     fragment items(x: tensor[]) -> (ys: tensor[]) \
-     fragment both(x: tensor = 0, y: tensor = 0) -> (z: tensor) \
-     fragment label(x: tensor, name: string, flag: logical = true, at: extent) -> (y: tensor) \
-     fragment nest(x: (tensor, tensor[])) -> (y: (tensor, tensor), z: tensor) \
-     fragment size(x: tensor) -> (n: extent) \
-     fragment sizes(x: tensor) -> (ns: extent[]) \
-     fragment pads(x: tensor, pad: (extent, scalar)[] = []) -> (y: tensor) \
-     fragment late(x: (tensor, extent) = (0, 0), y: tensor) -> (z: tensor)",
-);
 
 /// An operation for deep values and left sides.
 const DEEP: Text = Once(

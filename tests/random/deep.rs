@@ -55,6 +55,7 @@ pub fn deep(rng: &mut Rng) -> (Vec<Operation>, Document) {
     });
     let document = Document {
         version: "1.0".to_string(),
+        name: "g".to_string(),
         inputs: vec!["a".to_string()],
         outputs: vec!["z1".to_string()],
         calls: vec![

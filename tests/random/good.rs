@@ -19,6 +19,7 @@ const GREAT: &[&str] = &[
 #[rustfmt::skip]
 const REAL: &[&str] = &[
     "0.0", "0.50", "1.0", "2e0", "1E-5", "3.25e+2", "1e999", "0.000e9999", "120.00", "2147483647.0",
+    "5e-1", "1e-999", "0.001e1002", "123456789012345678.0e-20",
 ];
 #[rustfmt::skip]
 const STRINGS: &[&str] = &[
@@ -32,8 +33,7 @@ const ENOUGH_INPUTS: usize = 5;
 
 /// A good list. It declares `external`, and another operation that gives a tensor.
 pub fn list(rng: &mut Rng) -> Vec<Operation> {
-    let mut names = Names::default();
-    names.taken.insert("external".to_string());
+    let mut names = Names::other_than(["external".to_string()]);
     let count = rng.pick(&[2, 2, 3, 4, 6, 12]);
     let mut list: Vec<Operation> = (0..count)
         .map(|_| {
@@ -151,20 +151,14 @@ pub fn document(rng: &mut Rng, list: &[Operation]) -> Document {
         if operation.name == "external" && inputs.len() > ENOUGH_INPUTS {
             continue;
         }
-        let arguments = arguments(rng, operation, &identifiers);
-        let mut assigned = Vec::new();
-        let left = left(rng, &operation.result_type(), &mut names, &mut assigned);
+        let (call, assigned) = call(rng, operation, &identifiers, &mut names);
+        calls.push(call);
         identifiers.extend(assigned.clone());
         if operation.name == "external" {
             inputs.extend(assigned);
         } else {
             others.extend(assigned);
         }
-        calls.push(Call {
-            left,
-            operation: operation.name.clone(),
-            arguments,
-        });
     }
     rng.shuffle(&mut inputs);
     rng.shuffle(&mut others);
@@ -172,10 +166,29 @@ pub fn document(rng: &mut Rng, list: &[Operation]) -> Document {
     others.truncate(outputs);
     Document {
         version: "1.0".to_string(),
+        name: Names::default().fresh(rng),
         inputs,
         outputs: others,
         calls,
     }
+}
+
+/// A good call with new names on its left side, and these names.
+pub fn call(
+    rng: &mut Rng,
+    operation: &Operation,
+    identifiers: &[String],
+    names: &mut Names,
+) -> (Call, Vec<String>) {
+    let arguments = arguments(rng, operation, identifiers);
+    let mut assigned = Vec::new();
+    let left = left(rng, &operation.result_type(), names, &mut assigned);
+    let call = Call {
+        left,
+        operation: operation.name.clone(),
+        arguments,
+    };
+    (call, assigned)
 }
 
 fn gives_tensor(operation: &Operation) -> bool {
@@ -183,7 +196,7 @@ fn gives_tensor(operation: &Operation) -> bool {
 }
 
 /// Whether some left side matches a type.
-fn matchable(ty: &Type) -> bool {
+pub fn matchable(ty: &Type) -> bool {
     match ty {
         Type::Basic(basic) => *basic == "tensor",
         Type::Array(_) => true,
@@ -249,6 +262,13 @@ pub struct Names {
 }
 
 impl Names {
+    /// Names that are none of these.
+    pub fn other_than(taken: impl IntoIterator<Item = String>) -> Names {
+        Names {
+            taken: taken.into_iter().collect(),
+        }
+    }
+
     pub fn fresh(&mut self, rng: &mut Rng) -> String {
         loop {
             let name = match rng.below(20) {

@@ -11,7 +11,7 @@ pub enum Type {
 }
 
 /// A value, a left side or a default.
-#[derive(Clone)]
+#[derive(Clone, PartialEq, Eq)]
 pub enum Value {
     Name(String),
     Literal(String),
@@ -19,35 +19,37 @@ pub enum Value {
     Tuple(Vec<Value>),
 }
 
-#[derive(Clone)]
+#[derive(Clone, PartialEq, Eq)]
 pub struct Parameter {
     pub name: String,
     pub ty: Type,
     pub default: Option<Value>,
 }
 
-#[derive(Clone)]
+#[derive(Clone, PartialEq, Eq)]
 pub struct Operation {
     pub name: String,
     pub parameters: Vec<Parameter>,
     pub results: Vec<(String, Type)>,
 }
 
-#[derive(Clone)]
+#[derive(Clone, PartialEq, Eq)]
 pub struct Argument {
     pub label: Option<String>,
     pub value: Value,
 }
 
-#[derive(Clone)]
+#[derive(Clone, PartialEq, Eq)]
 pub struct Call {
     pub left: Value,
     pub operation: String,
     pub arguments: Vec<Argument>,
 }
 
+#[derive(Clone, PartialEq, Eq)]
 pub struct Document {
     pub version: String,
+    pub name: String,
     pub inputs: Vec<String>,
     pub outputs: Vec<String>,
     pub calls: Vec<Call>,
@@ -92,6 +94,17 @@ impl Value {
         Value::Literal(spelling.to_string())
     }
 
+    /// The names in the value, in reading order.
+    pub fn names(&self) -> Vec<String> {
+        match self {
+            Value::Name(name) => vec![name.clone()],
+            Value::Literal(_) => Vec::new(),
+            Value::Array(items) | Value::Tuple(items) => {
+                items.iter().flat_map(Value::names).collect()
+            }
+        }
+    }
+
     fn words(&self, words: &mut Vec<Word>, names: Role) {
         let item_words = |item: &Value, words: &mut Vec<Word>| item.words(words, names);
         match self {
@@ -131,10 +144,20 @@ impl Operation {
 }
 
 impl Call {
-    /// A tuple on the left is bare or in brackets, and `;` is there or not.
-    fn words(&self, rng: &mut Rng, words: &mut Vec<Word>) {
+    /// The place of the argument for the parameter at this index.
+    pub fn argument_for(&self, index: usize, parameter: &Parameter) -> Option<usize> {
+        let mut arguments = self.arguments.iter().enumerate();
+        let found = arguments.find(|(place, argument)| match &argument.label {
+            Some(label) => *label == parameter.name,
+            None => *place == index,
+        });
+        found.map(|(place, _)| place)
+    }
+
+    /// The call in words: a tuple on the left is bare or not, and `;` is there or not.
+    pub fn words(&self, bare: bool, ended: bool, words: &mut Vec<Word>) {
         match &self.left {
-            Value::Tuple(items) if rng.percent(70) => {
+            Value::Tuple(items) if bare => {
                 separated(words, items, |item, words| {
                     item.words(words, Role::Assigned)
                 });
@@ -149,10 +172,27 @@ impl Call {
             }
             argument.value.words(words, Role::Used);
         });
-        if rng.percent(60) {
+        if ended {
             words.push(Word::plain(";"));
         }
     }
+}
+
+impl Document {
+    /// The graph's name, inputs and outputs in words.
+    pub fn header_words(&self, words: &mut Vec<Word>) {
+        let name_words = |name: &String, words: &mut Vec<Word>| words.push(Word::plain(name));
+        words.push(Word::plain(&self.name));
+        bracketed(words, "(", ")", &self.inputs, name_words);
+        words.push(Word::plain("->"));
+        bracketed(words, "(", ")", &self.outputs, name_words);
+    }
+}
+
+/// The operation of this name, which the list declares.
+pub fn operation<'a>(list: &'a [Operation], name: &str) -> &'a Operation {
+    let found = list.iter().find(|operation| operation.name == name);
+    found.expect("the operation is declared")
 }
 
 /// An operation list in words.
@@ -166,16 +206,13 @@ pub fn list_words(list: &[Operation]) -> Vec<Word> {
 
 /// A document in words.
 pub fn document_words(rng: &mut Rng, document: &Document) -> Vec<Word> {
-    let name_words = |name: &String, words: &mut Vec<Word>| words.push(Word::plain(name));
-    let mut words = ["version", &document.version, "graph", "g"]
+    let mut words = ["version", &document.version, "graph"]
         .map(Word::plain)
         .to_vec();
-    bracketed(&mut words, "(", ")", &document.inputs, name_words);
-    words.push(Word::plain("->"));
-    bracketed(&mut words, "(", ")", &document.outputs, name_words);
+    document.header_words(&mut words);
     words.push(Word::plain("{"));
     for call in &document.calls {
-        call.words(rng, &mut words);
+        call.words(rng.percent(70), rng.percent(60), &mut words);
     }
     words.push(Word::plain("}"));
     words

@@ -1,9 +1,12 @@
 //! Pairs of an operation list and a document, of several sorts.
 
+use crate::changes::changed;
 use crate::damage;
 use crate::deep::deep;
-use crate::good;
+use crate::good::{self, Names};
+use crate::limits::near_limits;
 use crate::model::{self, Document, Operation};
+use crate::plan::{canonical_text, respelt, respelt_list, Canonical};
 use crate::rng::Rng;
 use crate::sizes::near_sizes;
 use crate::spelling::{spell, Lines, Role, Word};
@@ -13,13 +16,22 @@ pub struct Pair {
     pub list: Vec<u8>,
     pub document: Vec<u8>,
     /// What the document is to give, where it is known to be good.
-    pub tables: Option<Tables>,
+    pub good: Option<Good>,
 }
 
-pub struct Tables {
+pub struct Good {
     pub operations: u32,
     pub calls: Vec<u32>,
     pub wires: Vec<u32>,
+    pub canonical: Canonical,
+}
+
+/// Good pairs whose lists say the same.
+pub struct Family {
+    /// Two writings of one plan.
+    pub alike: [Pair; 2],
+    /// A document with another plan.
+    pub other: Pair,
 }
 
 pub type Maker = fn(&mut Rng, Lines) -> Pair;
@@ -43,18 +55,54 @@ pub const SORTS: &[(&str, Maker)] = &[
     ("many words", many_words),
 ];
 
+/// The sorts of pair that are good, as above.
+pub const GOOD_SORTS: &[(&str, Maker)] = &[
+    ("good", good_pair),
+    ("good", good_pair),
+    ("good", good_pair),
+    ("good", good_pair),
+    ("good", good_pair),
+    ("good", good_pair),
+    ("good", good_pair),
+    ("good", good_pair),
+    ("good", good_pair),
+    ("near limits", pair_near_limits),
+];
+
 fn good_pair(rng: &mut Rng, lines: Lines) -> Pair {
     let (list, document) = good_models(rng);
-    let list_words = model::list_words(&list);
-    let document_words = model::document_words(rng, &document);
-    let (list_text, _) = spell(rng, lines, &list_words);
-    let (document_text, places) = spell(rng, lines, &document_words);
-    let tables = tables(&list, &document_words, &places);
-    Pair {
-        list: list_text,
-        document: document_text,
-        tables: Some(tables),
+    known_pair(rng, lines, &list, &document)
+}
+
+fn pair_near_limits(rng: &mut Rng, lines: Lines) -> Pair {
+    let (list, document) = near_limits(rng);
+    known_pair(rng, lines, &list, &document)
+}
+
+/// Two pairs that say the same, and one that says something else.
+pub fn family(rng: &mut Rng, lines: Lines) -> Family {
+    let (mut list, document) = good_models(rng);
+    add_twin(rng, &mut list);
+    let other_list = respelt_list(rng, &list);
+    let other_writing = respelt(rng, &list, &document);
+    let other_document = changed(rng, &list, &document);
+    Family {
+        alike: [
+            known_pair(rng, lines, &list, &document),
+            known_pair(rng, lines, &other_list, &other_writing),
+        ],
+        other: known_pair(rng, lines, &list, &other_document),
     }
+}
+
+/// Adds an operation that differs from another one in its name alone.
+fn add_twin(rng: &mut Rng, list: &mut Vec<Operation>) {
+    let mut names = Names::other_than(list.iter().map(|operation| operation.name.clone()));
+    let twin = Operation {
+        name: names.fresh(rng),
+        ..list[rng.below(list.len())].clone()
+    };
+    list.insert(rng.below(list.len() + 1), twin);
 }
 
 fn damaged_models(rng: &mut Rng, lines: Lines) -> Pair {
@@ -84,7 +132,7 @@ fn damaged_words(rng: &mut Rng, lines: Lines) -> Pair {
 
 fn damaged_bytes(rng: &mut Rng, lines: Lines) -> Pair {
     let mut pair = good_pair(rng, lines);
-    pair.tables = None;
+    pair.good = None;
     for text in [&mut pair.list, &mut pair.document] {
         for _ in 0..rng.pick(&[0, 0, 1, 1, 2, 5]) {
             damage::damage_bytes(rng, text);
@@ -109,7 +157,7 @@ fn deep_pair(rng: &mut Rng, lines: Lines) -> Pair {
 /// A list or a document with nearly, just or more than as many bytes as may be.
 fn long_pair(rng: &mut Rng, lines: Lines) -> Pair {
     let mut pair = good_pair(rng, lines);
-    pair.tables = None;
+    pair.good = None;
     let text = if rng.percent(50) {
         &mut pair.list
     } else {
@@ -138,6 +186,25 @@ fn good_models(rng: &mut Rng) -> (Vec<Operation>, Document) {
     (list, document)
 }
 
+/// A good pair, with what it is to give.
+fn known_pair(rng: &mut Rng, lines: Lines, list: &[Operation], document: &Document) -> Pair {
+    let list_words = model::list_words(list);
+    let document_words = model::document_words(rng, document);
+    let (list_text, _) = spell(rng, lines, &list_words);
+    let (document_text, places) = spell(rng, lines, &document_words);
+    let (calls, wires) = tables(list, &document_words, &places);
+    Pair {
+        list: list_text,
+        document: document_text,
+        good: Some(Good {
+            operations: list.len() as u32,
+            calls,
+            wires,
+            canonical: canonical_text(list, document),
+        }),
+    }
+}
+
 /// The pair with its words changed on the way.
 fn unknown_pair(
     rng: &mut Rng,
@@ -153,7 +220,7 @@ fn unknown_pair(
     Pair {
         list: spell(rng, lines, &list_words).0,
         document: spell(rng, lines, &document_words).0,
-        tables: None,
+        good: None,
     }
 }
 
@@ -177,8 +244,8 @@ fn make_one_line(text: &mut [u8]) {
     }
 }
 
-/// The tables of a good document, from its words and their places.
-fn tables(list: &[Operation], words: &[Word], places: &[usize]) -> Tables {
+/// The call and the wire table of a good document, from its words and their places.
+fn tables(list: &[Operation], words: &[Word], places: &[usize]) -> (Vec<u32>, Vec<u32>) {
     let index = |name: &str| list.iter().position(|o| o.name == name).unwrap_or(0);
     let mut calls: Vec<[u32; 4]> = Vec::new();
     let mut wires = Vec::new();
@@ -204,9 +271,5 @@ fn tables(list: &[Operation], words: &[Word], places: &[usize]) -> Tables {
             }
         }
     }
-    Tables {
-        operations: list.len() as u32,
-        calls: calls.concat(),
-        wires: wires.concat(),
-    }
+    (calls.concat(), wires.concat())
 }

@@ -42,6 +42,7 @@ fn small() -> (Vec<Operation>, Document) {
     ];
     let document = Document {
         version: "1.0".to_string(),
+        name: "g".to_string(),
         inputs: vec!["a".to_string()],
         outputs: vec!["z".to_string()],
         calls: vec![

@@ -3,6 +3,7 @@ use lexis::Answer;
 ghost use mathlib.Core.Path.{_≡_};
 ghost use lib.ListN.{length};
 ghost use Rattle.lexis.specs.Answer.{tokensAnswer, tokensTable};
+ghost use Rattle.canonical.specs.Answer.{written, canonAnswer, outputAfter};
 ghost use Rattle.rules.specs.Answer.{declarationsAnswer, checked, checkAnswer, callsAfter, wiresAfter, workAfter};
 
 #[no_mangle]
@@ -37,4 +38,20 @@ pub extern "C" fn nnef_check(
     ensures { λ r. ⌜ now (work2 .exit) ≡ workAfter r (now (work2 .entry)) ⌝ }
 {
     rules::check::check(list, document, work1, work2, calls, wires)
+}
+
+#[no_mangle]
+pub extern "C" fn nnef_canon(
+    list: &[u8],
+    document: &[u8],
+    work1: &mut [u32],
+    work2: &mut [u32],
+    out: &mut [u8],
+) -> Answer
+    ensures { λ r. ⌜ r ≡ canonAnswer (now (list .entry)) (now (document .entry)) (length (now (work1 .entry))) (length (now (work2 .entry))) (length (now (out .entry))) ⌝ }
+    ensures { λ _. ⌜ now (out .exit) ≡ outputAfter (written (now (list .entry)) (now (document .entry)) (length (now (work1 .entry))) (length (now (work2 .entry))) (length (now (out .entry)))) (now (out .entry)) ⌝ }
+    ensures { λ r. ⌜ now (work1 .exit) ≡ workAfter r (now (work1 .entry)) ⌝ }
+    ensures { λ r. ⌜ now (work2 .exit) ≡ workAfter r (now (work2 .entry)) ⌝ }
+{
+    canonical::canon(list, document, work1, work2, out)
 }
