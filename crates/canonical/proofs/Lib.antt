@@ -34,6 +34,10 @@ pub mod CanonicalFaults
 -- The code that puts it into the output: parts one after the other, and whole texts.
 pub mod Putting
 pub mod Measures
+-- Writers.
+pub mod Again
+pub mod Held
+pub mod WriterCalls
 -- Spellings, values, arguments, names and left sides.
 pub mod Spelled
 pub mod Leaves
@@ -44,7 +48,8 @@ pub mod ArgumentPlaces
 pub mod ArgumentPuts
 pub mod NameRows
 pub mod Patterns
--- Calls, the document, canon.
+-- Calls, the document, canon, what the program shows.
 pub mod Titles
 pub mod CallWrites
 pub mod CanonStages
+pub mod Shown

@@ -5,5 +5,7 @@ pub mod Pieces
 pub mod Layout
 pub mod Answer
 pub mod Demand
+pub mod Program
 -- What only the contracts of the code cite.
 pub mod Writing
+pub mod Writer

@@ -4,7 +4,7 @@
 use Prim.Native.Nat.{ℕ, suc, _-_, _<_, _≤_}
 use mathlib.Core.Path.{_≡_}
 use mathlib.Core.Bool.{Bool, true, false, cond, _&&_}
-use mathlib.Core.List.{List, [], _∷_}
+use mathlib.Core.List.{List, [], _∷_, _++_}
 use mathlib.Core.Option.{Option, some}
 use mathlib.Core.Option.{none as nothing}
 use lib.Dec.{eqb, leb, ltb}
@@ -33,6 +33,7 @@ use Rattle.canonical.specs.declared.place.Place.{Place}
 use Rattle.canonical.specs.declared.value.Put.{Put}
 use Rattle.canonical.specs.declared.argument.Bound.{Bound}
 use Rattle.canonical.specs.declared.argument.Bound.the-variants.{At, Missing}
+use Rattle.canonical.specs.Spelling.{digits}
 use Rattle.canonical.specs.Pieces.{Piece, text}
 use Rattle.canonical.specs.Layout.{mark, piece, aName, pieces, items}
 
@@ -151,3 +152,9 @@ textStages list doc out = andThen (listStages list) (λ hs. andThen (documentSta
 pub record Wrote (s : Stage (List ℕ)) (out out' : List ℕ) (r : Answer) : Type 0 where
   pub answered : r ≡ counted s length
   pub output : out' ≡ outputAfter s out
+
+-- ---- the program
+
+-- a number in decimal and one byte after it
+abbrev pub numberThen : ℕ → ℕ → List ℕ
+numberThen n b = digits n ++ (b ∷ [])

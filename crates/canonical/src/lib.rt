@@ -4,8 +4,10 @@ pub mod call;
 pub mod document;
 pub mod pattern;
 pub mod place;
+pub mod program;
 pub mod spelling;
 pub mod value;
+pub mod writer;
 
 use document::put_document;
 use lexis::Answer;

@@ -1,5 +1,6 @@
 // A place in the lent output, and the storing of bytes from there on. The same functions measure a text, in an output of no bytes, and
 // write it.
+use crate::writer::write_line;
 use lexis::limits::Limits;
 use rules::word::word;
 ghost use mathlib.Core.Path.{_≡_};
@@ -73,9 +74,8 @@ pub fn put_word(out: &mut [u8], s: Place, word: &[u8]) -> Place
 pub fn put_spaced(out: &mut [u8], s: Place, word: &[u8], space: u8) -> Place
     ensures { λ r. ⌜ ((k : ℕ) → Puts (λ q. record { kind = k; bytes = now (word .entry); space = space ∷ [] } ∷ q) (now (out .entry)) (now (out .exit)) s r) ⌝ }
 {
-    let end = put_bytes(&mut *out, s.bytes, word);
     Place {
-        bytes: put_byte(out, end, space),
+        bytes: write_line(out, s.bytes, word, space),
         tokens: next_token(s.tokens),
     }
 }

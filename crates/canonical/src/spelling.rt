@@ -2,8 +2,8 @@
 use crate::place::Place;
 use crate::place::next_token;
 use crate::place::put_byte;
-use crate::place::put_bytes;
 use crate::place::put_word;
+use crate::writer::write_quoted;
 use lexis::limits::Limits;
 use lexis::number::Reduction;
 use lexis::number::reduce;
@@ -116,10 +116,8 @@ fn put_quoted(out: &mut [u8], s: Place, content: &[u8]) -> Place
     ensures { λ r. ⌜ PutsWord (spellString (now (content .entry))) (now (out .entry)) (now (out .exit)) s r ⌝ }
 {
     let quote = quote_for(content);
-    let open = put_byte(&mut *out, s.bytes, quote);
-    let end = put_bytes(&mut *out, open, content);
     Place {
-        bytes: put_byte(out, end, quote),
+        bytes: write_quoted(out, s.bytes, quote, content),
         tokens: next_token(s.tokens),
     }
 }

@@ -1,0 +1,14 @@
+-- What the program writes: the canonical bytes, or the four numbers of a refusal.
+use mathlib.Core.List.{List, [], _∷_, _++_}
+use Prim.Native.Nat.{ℕ}
+use Rattle.lexis.specs.declared.Answer.{Answer}
+use Rattle.rules.specs.Answer.{Stage, pass, stop}
+use Rattle.canonical.specs.Spelling.{digits}
+
+-- four numbers in decimal with one space between, and a line feed
+unfoldable pub printed : Answer → List ℕ
+printed r = digits (r .code) ++ (32 ∷ digits (r .text) ++ (32 ∷ digits (r .position) ++ (32 ∷ digits (r .detail) ++ (10 ∷ []))))
+
+abbrev pub shown : Stage (List ℕ) → List ℕ
+shown (pass bytes) = bytes
+shown (stop r) = printed r
