@@ -24,6 +24,7 @@ use Rattle.lexis.specs.declared.token.Lexeme.the-variants as L
 use Rattle.syntax.specs.Symbol.{symOf, symbolOf, keywordSymbol, aName}
 use Rattle.rules.specs.Reading.{isNumber, contentOf}
 use Rattle.canonical.specs.Spelling.{holdsSingle, quoteFor}
+use Rattle.canonical.proofs.Runs.{span-all}
 use Rattle.canonical.proofs.Fit.{All, none, more, IsWord, IsName, IsText}
 
 -- ---- good tokens
@@ -84,7 +85,7 @@ word-kind w =
     kind-in words w (a-truth, (a-truth, (k, (k, (k, (k, (k, (k, (k, (k, (k, (k, (k, (k, (k, (k, (k, tt)))))))))))))))))
 
 -- no keyword is taken for a name
-keyword-not : (w : List ℕ) → keywordSymbol w ≡ aName → ⊥
+pub keyword-not : (w : List ℕ) → keywordSymbol w ≡ aName → ⊥
 unfolding keywordSymbol
 keyword-not w =
     neither aName (sameBytes w (ascii "version")) _ _ (λ _. omega arith)
@@ -94,16 +95,6 @@ keyword-not w =
     (neither aName (sameBytes w (ascii "extent")) _ _ (λ _. omega arith)
     (neither aName (sameBytes w (ascii "scalar")) _ _ (λ _. omega arith)
     (neither aName (sameBytes w (ascii "logical")) _ _ (λ _. omega arith) (neither aName (sameBytes w (ascii "string")) _ _ (λ _. omega arith) (omega arith))))))))
-
--- the bytes of a run pass its test
-span-all : (f : ℕ → Bool) (s : List ℕ) → All f (take (spanLen f s) s)
-unfolding spanLen
-span-all f [] = none
-span-all f (c ∷ s) = go (f c) refl (span-all f s)
-  where
-    go : (b : Bool) → f c ≡ b → All f (take (spanLen f s) s) → All f (take (cond b (suc (spanLen f s)) 0) (c ∷ s))
-    go true e r = more e r
-    go false e r = none
 
 word-token : {k : ℕ} {w : List ℕ} → IsWord w → kindOfWord w ≡ k → WordKind k → Good k w
 unfolding symbolOf

@@ -6,16 +6,13 @@ use mathlib.Core.List.{List}
 use mathlib.Core.Option.{Option, some}
 use mathlib.Core.Option.{none as nothing}
 use Prim.Native.Nat.{ℕ, zero, suc, _+_, _-_, _<_}
-use Prim.Native.String.{String}
 use native.Mathlib.Omega.{arith}
 use lib.Dec.{eqb}
 use lib.ListN.{getD, drop}
 use lib.Seq.{getD-take, getD-drop}
-use Rattle.lexis.specs.Ascii.{ascii}
 use Rattle.lexis.specs.Kind as Kind
-use Rattle.lexis.specs.Words.{sameBytes}
 use Rattle.lexis.specs.Lexer.{Token}
-use Rattle.syntax.specs.Symbol.{symOf, symbolOf, keywordSymbol, isLiteral, aName}
+use Rattle.syntax.specs.Symbol.{symOf, symbolOf, isLiteral, aName}
 use Rattle.syntax.specs.Tree.{Value, Values, Ty, Tys}
 use Rattle.syntax.specs.Tree.Value.{name, literal, array, tuple}
 use Rattle.syntax.specs.Tree.Values.{more}
@@ -32,6 +29,7 @@ use Rattle.rules.specs.Fitting.IsBase.{a-word, a-tuple-base}
 use Rattle.rules.proofs.Fits.{tuple-no}
 use Rattle.rules.proofs.Phrases.{tuple-columns}
 use Rattle.canonical.specs.Writing.{leafAt}
+use Rattle.canonical.proofs.Good.{keyword-not}
 
 clash : _≡_ {A = ℕ} 0 1 → ⊥
 clash z = omega arith
@@ -111,21 +109,6 @@ leaf-word zero t (a-tuple-base f d h) e = absurd (none-or-none (eqb (t .kind) Ki
 leaf-word (suc k) t h e = absurd (none-or-none (eqb (t .kind) Kind.name) e)
 
 -- a token that is seen as a name is one: no keyword is, and a syntactic character is seen as its first byte
-keyword-no-name : (w : List ℕ) → keywordSymbol w ≡ aName → ⊥
-unfolding keywordSymbol
-keyword-no-name w =
-    no "version" (λ z. omega arith)
-    (no "graph" (λ z. omega arith)
-    (no "fragment" (λ z. omega arith)
-    (no "tensor" (λ z. omega arith)
-    (no "extent" (λ z. omega arith)
-    (no "scalar" (λ z. omega arith)
-    (no "logical" (λ z. omega arith)
-    (no "string" (λ z. omega arith) (λ z. omega arith))))))))
-  where
-    no : (x : String) {a b : ℕ} → (a ≡ aName → ⊥) → (b ≡ aName → ⊥) → cond (sameBytes w (ascii x)) a b ≡ aName → ⊥
-    no x f g = cond-has (λ s. s ≡ aName → ⊥) (sameBytes w (ascii x)) f g
-
 name-kind : (t : Token) → getD (t .bytes) 0 0 < 256 → symOf t ≡ aName → eqb (t .kind) Kind.name ≡ true
 unfolding symOf symbolOf
 name-kind t l =
@@ -134,7 +117,7 @@ name-kind t l =
     (other-kind Kind.real (λ z. omega arith)
     (other-kind Kind.string (λ z. omega arith)
     (other-kind Kind.truth (λ z. omega arith)
-    (other-kind Kind.keyword (λ z. keyword-no-name (t .bytes) z)
+    (other-kind Kind.keyword (λ z. keyword-not (t .bytes) z)
     (other-kind Kind.syntactic (λ z. omega arith) (λ z. absurd (omega arith))))))))
   where
     Named : ℕ → Type 0
