@@ -12,7 +12,7 @@ use Rattle.lexis.specs.Lexer.{Token}
 use Rattle.syntax.specs.Symbol.{rightRound}
 use Rattle.syntax.specs.Tree.{Param, Arg}
 use Rattle.syntax.specs.Parser.{row, plain, commas, param}
-use Rattle.syntax.specs.Parser.{argument as anArgument}
+use Rattle.syntax.specs.Parser.{argumentPieces as anArgument}
 use Rattle.syntax.specs.Parser.Parse.{ok}
 use Rattle.syntax.specs.Table.{tokenAt, toks}
 use Rattle.syntax.proofs.Shrinks.{param-shrinks}
@@ -24,7 +24,7 @@ use Rattle.rules.specs.Arguments.GoesOn.{more, last}
 use Rattle.rules.proofs.Items.{clash, param-there, param-name}
 use Rattle.canonical.specs.Plan.{valueFor, valuesFor}
 use Rattle.canonical.specs.declared.place.Place.{Place}
-use Rattle.canonical.specs.Layout.{mark, pieces, argument, moreArguments, arguments}
+use Rattle.canonical.specs.Layout.{mark, pieces, argumentPieces, moreArgumentsPieces, argumentsPieces}
 use Rattle.canonical.specs.Writing.{Puts, PutsWord, argumentFor}
 use Rattle.canonical.proofs.Putting.{puts-then}
 use Rattle.canonical.proofs.Arguments.{filledFrom, slots-filled, values-more}
@@ -34,15 +34,15 @@ use Rattle.canonical.proofs.ArgumentPlaces.{row-first}
 
 -- the parameter's name, `=`, and the value
 pub argument-put : (text table : List ℕ) (n p : ℕ) {q : Param} {ws : List Token} (w : Val) {a b c d : List ℕ} {s t u v : Place} → param maxBrackets (toks text table n p) ≡ ok q ws
-    → PutsWord (tokenAt text table p .bytes) a b s t → PutsWord (ascii "=") b c t u → Puts (pieces w) c d u v → Puts (argument q w) a d s v
+    → PutsWord (tokenAt text table p .bytes) a b s t → PutsWord (ascii "=") b c t u → Puts (pieces w) c d u v → Puts (argumentPieces q w) a d s v
 argument-put text table n p w g x y z = rw (param-name text table n p g) (puts-then (x Kind.name) (puts-then (y Kind.syntactic) z))
 
 -- ---- the walk over the parameters
 
 -- a comma, and the arguments of the parameters that are left
 comma-then : (xs : List Arg) (k : ℕ) (qs : List Param) {p : Param} {ps : List Param} → qs ≡ p ∷ ps → (vs : List Val) → valuesFor (filledFrom xs k qs) ≡ some vs
-    → {a b c : List ℕ} {s t u : Place} → Puts (λ r. mark (ascii ",") ∷ r) a b s t → Puts (arguments qs vs) b c t u → Puts (moreArguments qs vs) a c s u
-unfolding arguments moreArguments
+    → {a b c : List ℕ} {s t u : Place} → Puts (λ r. mark (ascii ",") ∷ r) a b s t → Puts (argumentsPieces qs vs) b c t u → Puts (moreArgumentsPieces qs vs) a c s u
+unfolding argumentsPieces moreArgumentsPieces
 comma-then xs k [] e vs h x y = clash cc
 comma-then xs k (q ∷ qs) e [] h x y = let w = values-more xs k q qs h .whole in clash cc
 comma-then xs k (q ∷ qs) e (v ∷ vs) h x y = puts-then x y
@@ -61,7 +61,7 @@ module _ (dtext dtable : List ℕ) (dn args : ℕ) (ltext ltable : List ℕ) (ln
     pub values : List Val
     pub reads : Params p left ws
     pub valued : valuesFor (filledFrom xs k left) ≡ some values
-    pub whole : (o : List ℕ) (t : Place) → Puts (arguments left values) out o at t → Puts (arguments ps vs) before o s t
+    pub whole : (o : List ℕ) (t : Place) → Puts (argumentsPieces left values) out o at t → Puts (argumentsPieces ps vs) before o s t
 
   abbrev pub PutsLeft : List ℕ → Place → ℕ → ℕ → Type 0
   PutsLeft out at p k = (xs : List Arg) (us : List Token) (ps : List Param) (ws : List Token) (vs : List Val) → Args xs us → Params params ps ws → misplaced ps xs ≡ [] → valuesFor (slots ps xs) ≡ some vs
@@ -69,7 +69,7 @@ module _ (dtext dtable : List ℕ) (dn args : ℕ) (ltext ltable : List ℕ) (ln
 
   abbrev pub PutsAll : List ℕ → Place → Type 0
   PutsAll out at = (xs : List Arg) (us : List Token) (ps : List Param) (ws : List Token) (vs : List Val) → Args xs us → Params params ps ws → misplaced ps xs ≡ [] → valuesFor (slots ps xs) ≡ some vs
-      → Puts (arguments ps vs) before out s at
+      → Puts (argumentsPieces ps vs) before out s at
 
   pub puts-start : PutsLeft before s params 0
   puts-start xs us ps ws vs a h m v = record { left = ps; values = vs; reads = h; valued = ap valuesFor (sym (slots-filled ps xs m)) ∙ v; whole = λ o t q. q }
@@ -77,19 +77,19 @@ module _ (dtext dtable : List ℕ) (dn args : ℕ) (ltext ltable : List ℕ) (ln
   module _ (out : List ℕ) (at : Place) (p k : ℕ) (walk : PutsLeft out at p k) where
     module _ {b : List ℕ} {t : Place}
         (one : (xs : List Arg) (us : List Token) (q : Param) (ws : List Token) (w : Val) → Args xs us → param maxBrackets (toks ltext ltable ln p) ≡ ok q ws
-        → valueFor (record { param = q; value = argumentFor 0 k q xs }) ≡ some w → Puts (argument q w) out b at t) where
+        → valueFor (record { param = q; value = argumentFor 0 k q xs }) ≡ some w → Puts (argumentPieces q w) out b at t) where
       pub puts-last : ((qs : List Param) (ws : List Token) → Params p qs ws → GoesOn (param maxBrackets) ltext ltable ln p qs ws End) → PutsAll b t
-      unfolding arguments moreArguments
+      unfolding argumentsPieces moreArgumentsPieces
       puts-last ends xs us ps ws vs a h m v = let l = walk xs us ps ws vs a h m v in go l (ends (l .left) ws (l .reads))
         where
-          go : (l : Left xs ps ws vs out at p k) → GoesOn (param maxBrackets) ltext ltable ln p (l .left) ws End → Puts (arguments ps vs) before b s t
+          go : (l : Left xs ps ws vs out at p k) → GoesOn (param maxBrackets) ltext ltable ln p (l .left) ws End → Puts (argumentsPieces ps vs) before b s t
           go l (last {x = q} {us = zs} e r) =
               let w = values-more xs k q [] (ap (λ (qs : List Param). valuesFor (filledFrom xs k qs)) (sym e) ∙ l .valued) in
               l .whole b t (rw (e, w .whole) (one xs us q zs (w .one) a r (w .this)))
 
       pub puts-on : {c : List ℕ} {u : Place} {j : ℕ} → Puts (λ r. mark (ascii ",") ∷ r) b c t u
           → ((qs : List Param) (ws : List Token) → Params p qs ws → GoesOn (param maxBrackets) ltext ltable ln p qs ws (Item j)) → PutsLeft c u j (k + 1)
-      unfolding arguments
+      unfolding argumentsPieces
       puts-on {c} {u} {j} comma goes xs us ps ws vs a h m v = let l = walk xs us ps ws vs a h m v in go l (goes (l .left) ws (l .reads))
         where
           go : (l : Left xs ps ws vs out at p k) → GoesOn (param maxBrackets) ltext ltable ln p (l .left) ws (Item j) → Left xs ps ws vs c u j (k + 1)

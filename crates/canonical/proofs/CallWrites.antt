@@ -22,8 +22,8 @@ use Rattle.rules.proofs.Lookups.{calls-more, calls-none}
 use Rattle.canonical.specs.declared.place.Place.{Place}
 use Rattle.canonical.specs.Plan.{PlanCall, Plan, valuesFor, planCall, planCalls, spellings, planOf}
 use Rattle.canonical.specs.Pieces.{Piece}
-use Rattle.canonical.specs.Layout.{spaced, lined, aName, mark, names, leftPieces, arguments, paramsOf, callPieces, callsPieces, document}
-use Rattle.canonical.specs.Writing.{Puts, Written}
+use Rattle.canonical.specs.Layout.{spaced, lined, namePiece, mark, namesPieces, leftPieces, argumentsPieces, paramsOf, callPieces, callsPieces, documentPieces}
+use Rattle.canonical.specs.Writing.{Puts, PutsAll}
 use Rattle.canonical.proofs.Found.{params-found}
 use Rattle.canonical.proofs.Planned.{bound, both, planned}
 use Rattle.canonical.proofs.PlanExists.{row-none}
@@ -66,8 +66,8 @@ under hs c {h} {p} e f g =
 module _ {hs : List Header} {h : Header} {c : Call} {p : PlanCall} (u : Under hs h c p) where
   pub puts-call : {t : Token} {o₀ o₁ o₂ o₃ o₄ o₅ : List ℕ} {s₀ s₁ s₂ s₃ s₄ s₅ : Place} → t ≡ c .op
       → Puts (leftPieces (p .left)) o₀ o₁ s₀ s₁
-      → Puts (λ q. mark (ascii "=") ∷ aName (t .bytes) ∷ mark (ascii "(") ∷ q) o₁ o₂ s₁ s₂
-      → Puts (arguments (h .params) (p .values)) o₂ o₃ s₂ s₃
+      → Puts (λ q. mark (ascii "=") ∷ namePiece (t .bytes) ∷ mark (ascii "(") ∷ q) o₁ o₂ s₁ s₂
+      → Puts (argumentsPieces (h .params) (p .values)) o₂ o₃ s₂ s₃
       → Puts (λ q. mark (ascii ")") ∷ q) o₃ o₄ s₃ s₄
       → Puts (λ q. lined Kind.syntactic (ascii ";") ∷ q) o₄ o₅ s₄ s₅
       → Puts (callPieces hs p) o₀ o₅ s₀ s₅
@@ -122,16 +122,16 @@ start = record { bytes = 0; tokens = 0 }
 
 pub puts-document : (hs : List Header) (d : Document) {p : Plan} {o₀ o₁ o₂ o₃ : List ℕ} {s₁ s₂ s₃ : Place} → planOf hs d ≡ some p
     → Puts (λ q.
-    spaced Kind.keyword (ascii "version") ∷ lined Kind.real (ascii "1.0") ∷ spaced Kind.keyword (ascii "graph") ∷ aName (d .graph .bytes) ∷ mark (ascii "(")
-    ∷ names (spellings (d .inputs)) (mark (ascii ")") ∷ mark (ascii "->") ∷ mark (ascii "(")
-    ∷ names (spellings (d .outputs)) (lined Kind.syntactic (ascii ")") ∷ lined Kind.syntactic (ascii "{") ∷ q))) o₀ o₁ start s₁
+    spaced Kind.keyword (ascii "version") ∷ lined Kind.real (ascii "1.0") ∷ spaced Kind.keyword (ascii "graph") ∷ namePiece (d .graph .bytes) ∷ mark (ascii "(")
+    ∷ namesPieces (spellings (d .inputs)) (mark (ascii ")") ∷ mark (ascii "->") ∷ mark (ascii "(")
+    ∷ namesPieces (spellings (d .outputs)) (lined Kind.syntactic (ascii ")") ∷ lined Kind.syntactic (ascii "{") ∷ q))) o₀ o₁ start s₁
     → ((cs : List PlanCall) → planCalls hs (d .calls) ≡ some cs → Puts (callsPieces hs cs) o₁ o₂ s₁ s₂)
     → Puts (λ q. lined Kind.syntactic (ascii "}") ∷ q) o₂ o₃ s₂ s₃
-    → Written (document hs p) o₀ o₃ s₃
-unfolding planOf document
+    → PutsAll (documentPieces hs p) o₀ o₃ s₃
+unfolding planOf documentPieces
 puts-document hs d {p} {o₀} {o₃ = o₃} {s₃ = s₃} e h c k =
     let made : List PlanCall → Plan = λ cs. record { graph = d .graph .bytes; inputs = spellings (d .inputs); outputs = spellings (d .outputs); calls = cs } in
     let x = bound (planCalls hs (d .calls)) (λ cs. some (made cs)) e in
     let is : made (x .it) ≡ p = cc (x .gives) in
     let all = puts-then h (puts-then (c (x .it) (x .there)) k) in
-    subst (λ (y : Plan). Written (document hs y) o₀ o₃ s₃) is (record { bytes = puts-stored all; place = puts-onward all })
+    subst (λ (y : Plan). PutsAll (documentPieces hs y) o₀ o₃ s₃) is (record { bytes = puts-stored all; place = puts-onward all })

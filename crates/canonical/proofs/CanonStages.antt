@@ -9,7 +9,7 @@ use native.Mathlib.Omega.{arith}
 use borrow.Author.Tests.{le-leb, lt-leb, leb-true, leb-false, ne-eqb}
 use lib.Dec.{leb, eqb}
 use lib.ListN.{length, take, drop, replicate}
-use Rattle.lexis.specs.Sizes.{maxText, maxTokens, maxBrackets, tableWords, workWords}
+use Rattle.lexis.specs.Sizes.{maxText, maxTokens, maxBrackets, scratchStart, workWords}
 use Rattle.lexis.specs.Answer.{answer}
 use Rattle.lexis.specs.declared.Answer.{Answer}
 use Rattle.syntax.specs.Tree.{Header, Document}
@@ -18,17 +18,17 @@ use Rattle.syntax.specs.Parser.Parse.{ok}
 use Rattle.syntax.specs.Table.{toks, Holds}
 use Rattle.rules.specs.ListRules.{listFaults}
 use Rattle.rules.specs.DocumentRules.{documentFaults}
-use Rattle.rules.specs.Lists.{Heads, Places}
-use Rattle.rules.specs.Answer.{Stage, pass, stop, andThen, guard, counted, listStages, documentStages, Checked, workAfter}
-use Rattle.rules.specs.Stages.{bothStages, BothPassed}
+use Rattle.rules.specs.Lists.{Heads, NamePlaces}
+use Rattle.rules.specs.Answer.{Stage, pass, stop, andThen, guard, stageAnswer, listStages, documentStages, Checked, workAfter}
+use Rattle.rules.specs.Stages.{BothPassed}
 use Rattle.rules.proofs.First.{first-none}
 use Rattle.rules.proofs.DocumentCodes.{joined, both-codes}
 use Rattle.rules.proofs.BothStages.{list-clean, document-clean, part-heads, part-places, both-under}
 use Rattle.canonical.specs.Plan.{Plan, planOf}
 use Rattle.canonical.specs.Pieces.{Piece, text}
-use Rattle.canonical.specs.Layout.{document}
+use Rattle.canonical.specs.Layout.{documentPieces}
 use Rattle.canonical.specs.Answer.{laidOut, layoutOf, writingStages, written, canonAnswer, outputAfter}
-use Rattle.canonical.specs.Writing.{stored, onward, Written, Ranged, textStages, Wrote}
+use Rattle.canonical.specs.Writing.{stored, placeAfter, PutsAll, Ranged, Wrote}
 use Rattle.canonical.specs.declared.place.Place.{Place}
 use Rattle.canonical.proofs.Measures.{passed-is, tallied-is, stored-is, stored-none, ranged}
 use Rattle.canonical.proofs.PlanExists.{plan-exists}
@@ -36,16 +36,16 @@ use Rattle.canonical.proofs.PlanExists.{plan-exists}
 -- ---- the stages
 
 -- the answer and the output are those of equal stages; a refusal leaves the output as it was
-wrote-as : {s t : Stage (List ℕ)} {out out' : List ℕ} {r : Answer} → s ≡ t → r ≡ counted t length → out' ≡ outputAfter t out → Wrote s out out' r
+wrote-as : {s t : Stage (List ℕ)} {out out' : List ℕ} {r : Answer} → s ≡ t → r ≡ stageAnswer t length → out' ≡ outputAfter t out → Wrote s out out' r
 wrote-as {out = out} e a k =
-    record { answered = a ∙ sym (ap (λ (x : Stage (List ℕ)). counted x length) e); output = k ∙ sym (ap (λ (x : Stage (List ℕ)). outputAfter x out) e) }
+    record { answered = a ∙ sym (ap (λ (x : Stage (List ℕ)). stageAnswer x length) e); output = k ∙ sym (ap (λ (x : Stage (List ℕ)). outputAfter x out) e) }
 
 pub wrote-stopped : {s : Stage (List ℕ)} {out out' : List ℕ} {q r : Answer} → s ≡ stop q → r ≡ q → out' ≡ out → Wrote s out out' r
 unfolding outputAfter
 wrote-stopped e a k = wrote-as e a k
 
 -- a work area is cleared after stages whose refusals have none of the codes 1 and 2
-cleared-after : {A : Type 0} (s : Stage A) (n : A → ℕ) → ((a : Answer) → s ≡ stop a → 3 ≤ a .code) → (work : List ℕ) {r : Answer} → r ≡ counted s n → replicate (length work) 0 ≡ workAfter r work
+cleared-after : {A : Type 0} (s : Stage A) (n : A → ℕ) → ((a : Answer) → s ≡ stop a → 3 ≤ a .code) → (work : List ℕ) {r : Answer} → r ≡ stageAnswer s n → replicate (length work) 0 ≡ workAfter r work
 unfolding workAfter
 cleared-after (pass a) n h work e = rw e
 cleared-after (stop q) n h work e = let c = h q refl in rw (e, ne-eqb (q .code) 1 (λ z. omega (arith, c, z)), ne-eqb (q .code) 2 (λ z. omega (arith, c, z)))
@@ -76,12 +76,12 @@ module _ (list doc : List ℕ) (out : ℕ) where
   text-codes r h = go (bothStages list doc) refl (sym text-after ∙ h)
     where
       size : (bs : List ℕ) (a b : Bool) → guard a (answer 25 0 0 0) (guard b (answer 26 0 0 (length bs)) (pass bs)) ≡ stop r → 3 ≤ r .code
-      size bs false b e = let c : 25 ≡ r .code = ap (λ (x : Stage (List ℕ)). counted x length .code) e in omega arith
-      size bs true false e = let c : 26 ≡ r .code = ap (λ (x : Stage (List ℕ)). counted x length .code) e in omega arith
+      size bs false b e = let c : 25 ≡ r .code = ap (λ (x : Stage (List ℕ)). stageAnswer x length .code) e in omega arith
+      size bs true false e = let c : 26 ≡ r .code = ap (λ (x : Stage (List ℕ)). stageAnswer x length .code) e in omega arith
       size bs true true e = let z : _≡_ {A = ℕ} 0 1 = cc in absurd (omega arith)
 
       go : (s : Stage Checked) → bothStages list doc ≡ s → andThen s writes ≡ stop r → 3 ≤ r .code
-      go (stop q) e k = both-codes list doc r (e ∙ ap (λ (x : Answer). stop x) (ap (λ (x : Stage (List ℕ)). counted x length) k))
+      go (stop q) e k = both-codes list doc r (e ∙ ap (λ (x : Answer). stop x) (ap (λ (x : Stage (List ℕ)). stageAnswer x length) k))
       go (pass c) e k = let ps = layoutOf (c .headers) (c .document) in size (text ps) (leb (length (text ps)) maxText && leb (length ps) maxTokens) (leb (length (text ps)) out) k
 
 -- ---- the size of pieces
@@ -98,13 +98,13 @@ abbrev keepsLimits : Place → Bool
 keepsLimits s = leb (s .bytes) maxText && leb (s .tokens) maxTokens
 
 -- pieces that were put, whatever the output
-module _ {ps : List Piece} {out out' : List ℕ} {s : Place} (w : Written ps out out' s) where
+module _ {ps : List Piece} {out out' : List ℕ} {s : Place} (w : PutsAll ps out out' s) where
   bytes-are : s .bytes ≡ min (length (text ps)) (suc maxText)
-  unfolding onward
+  unfolding placeAfter
   bytes-are = let e = ap (λ (x : Place). x .bytes) (w .place) ∙ passed-is 0 (text ps) (omega arith) in omega (arith, e)
 
   tokens-are : s .tokens ≡ min (length ps) (suc maxTokens)
-  unfolding onward
+  unfolding placeAfter
   tokens-are = let e = ap (λ (x : Place). x .tokens) (w .place) ∙ tallied-is 0 ps (omega arith) in omega (arith, e)
 
   pub bytes-few : s .bytes ≤ suc maxText
@@ -139,7 +139,7 @@ module _ {list doc work₁ work₂ : List ℕ} {n k m : ℕ} (b : BothPassed lis
 
   -- the pieces of its canonical text, and the stages that are left
   abbrev pub laid : List Piece
-  laid = document headers (plan .0)
+  laid = documentPieces headers (plan .0)
 
   left-are : (out : ℕ) → textStages list doc out ≡ writingStages laid out
   unfolding layoutOf
@@ -150,18 +150,18 @@ module _ {list doc work₁ work₂ : List ℕ} {n k m : ℕ} (b : BothPassed lis
 
   -- what putting it asks and ensures
   abbrev names : List ℕ
-  names = take (tableWords + k - tableWords) (drop tableWords work₁)
+  names = take (scratchStart + k - scratchStart) (drop scratchStart work₁)
 
-  pub put-asked : Holds list work₁ n × (Ranged list work₁ n × (Places n names × (Holds doc work₂ m × Ranged doc work₂ m)))
+  pub put-asked : Holds list work₁ n × (Ranged list work₁ n × (NamePlaces n names × (Holds doc work₂ m × Ranged doc work₂ m)))
   put-asked = let l = b .first in let d = b .second in (l .table, (ranged list work₁ n (l .lexed), (part-places l, (d .table, ranged doc work₂ m (d .lexed)))))
 
   pub put-ensured : {out out' : List ℕ} {s : Place}
-      → ((hs : List Header) (d : Document) (p : Plan) → Heads list work₁ n maxBrackets names hs → parseDocument (toks doc work₂ m 0) ≡ ok d [] → documentFaults hs d ≡ [] → planOf hs d ≡ some p → Written (document hs p) out out' s)
-      → Written laid out out' s
+      → ((hs : List Header) (d : Document) (p : Plan) → Heads list work₁ n maxBrackets names hs → parseDocument (toks doc work₂ m 0) ≡ ok d [] → documentFaults hs d ≡ [] → planOf hs d ≡ some p → PutsAll (documentPieces hs p) out out' s)
+      → PutsAll laid out out' s
   put-ensured f = f headers tree (plan .0) (part-heads (b .first)) (b .second .parsed) faultless (plan .1)
 
   -- it was measured by putting it into no bytes
-  module _ (out : List ℕ) {none : List ℕ} {s : Place} (w : Written laid [] none s) where
+  module _ (out : List ℕ) {none : List ℕ} {s : Place} (w : PutsAll laid [] none s) where
     unmoved : none ++ out ≡ out
     unmoved = ap (λ (xs : List ℕ). xs ++ out) (w .bytes ∙ stored-none 0 (text laid))
 
@@ -180,7 +180,7 @@ module _ {list doc work₁ work₂ : List ℕ} {n k m : ℕ} (b : BothPassed lis
         let h = lt-leb (length (text laid)) (length out) (omega (arith, l, same-length, c)) in
         wrote-stopped (left-are (length out) ∙ rw (e, h)) (a ∙ ap (λ (x : ℕ). answer 26 0 0 x) c) unmoved
 
-    pub all-written : {r : Answer} {out' : List ℕ} {s' : Place} → keepsLimits s ≡ true → s .bytes ≤ length (none ++ out) → Written laid (none ++ out) out' s' → r ≡ answer 0 0 0 (s .bytes)
+    pub all-written : {r : Answer} {out' : List ℕ} {s' : Place} → keepsLimits s ≡ true → s .bytes ≤ length (none ++ out) → PutsAll laid (none ++ out) out' s' → r ≡ answer 0 0 0 (s .bytes)
         → Wrote (textStages list doc (length out)) out out' r
     unfolding writingStages outputAfter
     all-written f l v a =

@@ -20,9 +20,9 @@ use Rattle.syntax.specs.Tree.{Ty, Tys, Param, Header}
 use Rattle.syntax.specs.Grammar.{Leaves, both}
 use Rattle.rules.specs.Reading.{Val, Vals}
 use Rattle.canonical.specs.Plan.{Plan, PlanCall}
-use Rattle.canonical.specs.Spelling.{digits, spellNumber, holdsSingle, quoteFor, spellString, spellTruth}
+use Rattle.canonical.specs.Spelling.{decimal, spellNumber, holdsSingle, quoteFor, spellString, spellTruth}
 use Rattle.canonical.specs.Pieces.{Piece, text, tokensAt}
-use Rattle.canonical.specs.Layout.{piece, spaced, aName, mark, pieces, items, moreItems, leftPieces, moreNames, names, argument, moreArguments, arguments, callPieces, callsPieces, document, canonical}
+use Rattle.canonical.specs.Layout.{piece, spaced, namePiece, mark, pieces, items, moreItems, leftPieces, moreNamesPieces, namesPieces, argumentPieces, moreArgumentsPieces, argumentsPieces, callPieces, callsPieces, documentPieces, canonical}
 use Rattle.canonical.proofs.Fit.{All, none, more, IsWord, IsName, IsNumber, IsText, Fits, fit-name, fit-number, fit-scalar, fit-extent, fit-string, fit-logical, fit-truth, fit-array, fit-tuple, FitsAll, all-none, all-more, FitsEach, each-none, each-more, LeftFits, alone, several, FitsParams, no-param, a-param, CallFits, CallsFit, one-call, more-calls, NamesFit, one-name, more-names, PlanFits}
 use Rattle.canonical.proofs.Found.{params-found}
 use Rattle.canonical.proofs.Runs.{next, span-all, differs}
@@ -73,7 +73,7 @@ leaf {j} (begins h) n l k = record { chain = link l k; other = λ e. eqb-false j
 a-word : {k : ℕ} (w : List ℕ) {r : List Piece} → IsWord w → kindOfWord w ≡ k → AfterWord r → AfterEqual (piece k w ∷ r)
 a-word w {r} h e a = leaf (word-begins w h) refl (word-lexes w [] (text r) h e none (a .apart)) (a .chain)
 
-a-name : {w : List ℕ} {r : List Piece} → IsName w → AfterWord r → AfterEqual (aName w ∷ r)
+a-name : {w : List ℕ} {r : List Piece} → IsName w → AfterWord r → AfterEqual (namePiece w ∷ r)
 a-name {w} h a = a-word w (h .word) (h .kind) a
 
 -- a word given by its bytes
@@ -96,7 +96,7 @@ a-truth x a = a-word (spellTruth x) (truth-word x) (truth-kind x) a
 a-number : {n : Reduced} {r : List Piece} → IsNumber n → AfterWord r → AfterEqual (piece Kind.real (spellNumber n) ∷ r)
 a-number {n} {r} h a = leaf (number-begins n) refl (number-lexes n (text r) h (a .apart)) (a .chain)
 
-an-extent : {n : ℕ} {r : List Piece} → n ≤ maxExtent → AfterWord r → AfterEqual (piece Kind.whole (digits n) ∷ r)
+an-extent : {n : ℕ} {r : List Piece} → n ≤ maxExtent → AfterWord r → AfterEqual (piece Kind.whole (decimal n) ∷ r)
 an-extent {n} {r} h a = leaf (digits-begin (are-digits n)) refl (whole-lexes n (text r) (omega arith) (a .apart)) (a .chain)
 
 -- either quote is of the class of quotes, and no content of its own strings
@@ -142,28 +142,28 @@ mutual
 
 -- ---- names
 
-name-more : {ws : List (List ℕ)} {r : List Piece} → NamesFit ws → AfterWord r → AfterWord (moreNames ws r)
-unfolding moreNames
+name-more : {ws : List (List ℕ)} {r : List Piece} → NamesFit ws → AfterWord r → AfterWord (moreNamesPieces ws r)
+unfolding moreNamesPieces
 name-more (one-name h) a = comma (a-name h a .chain)
 name-more (more-names h f) a = comma (a-name h (name-more f a) .chain)
 
-name-list : {ws : List (List ℕ)} {r : List Piece} → NamesFit ws → AfterWord r → Chain (names ws r)
-unfolding names moreNames
+name-list : {ws : List (List ℕ)} {r : List Piece} → NamesFit ws → AfterWord r → Chain (namesPieces ws r)
+unfolding namesPieces moreNamesPieces
 name-list (one-name h) a = a-name h a .chain
 name-list (more-names h f) a = a-name h (name-more f a) .chain
 
 -- ---- arguments
 
-an-argument : {b : ℕ} (p : Param) {v : Val} {r : List Piece} → IsName (p .name .bytes) → Fits both b (p .ty) v → AfterWord r → Chain (argument p v r)
+an-argument : {b : ℕ} (p : Param) {v : Val} {r : List Piece} → IsName (p .name .bytes) → Fits both b (p .ty) v → AfterWord r → Chain (argumentPieces p v r)
 an-argument p h f a = a-name h (equals (value f a)) .chain
 
-argument-more : {b : ℕ} {ps : List Param} {vs : List Val} {r : List Piece} → FitsParams b ps vs → AfterWord r → AfterWord (moreArguments ps vs r)
-unfolding moreArguments
+argument-more : {b : ℕ} {ps : List Param} {vs : List Val} {r : List Piece} → FitsParams b ps vs → AfterWord r → AfterWord (moreArgumentsPieces ps vs r)
+unfolding moreArgumentsPieces
 argument-more no-param a = a
 argument-more (a-param {p} h f g) a = comma (an-argument p h f (argument-more g a))
 
-argument-list : {b : ℕ} {ps : List Param} {vs : List Val} {r : List Piece} → FitsParams b ps vs → AfterWord r → Chain (arguments ps vs r)
-unfolding arguments
+argument-list : {b : ℕ} {ps : List Param} {vs : List Val} {r : List Piece} → FitsParams b ps vs → AfterWord r → Chain (argumentsPieces ps vs r)
+unfolding argumentsPieces
 argument-list no-param a = a .chain
 argument-list (a-param {p} h f g) a = an-argument p h f (argument-more g a)
 
@@ -194,8 +194,8 @@ a-keyword : (w : List ℕ) {r : List Piece} → IsWord w → kindOfWord w ≡ Ki
 unfolding classOf
 a-keyword w {r} h e k = link (word-lexes w (32 ∷ []) (text r) h e (more refl none) (record { letter = refl; digit = refl; point = refl })) k
 
-document-chain : {hs : List Header} {p : Plan} → PlanFits hs p → Chain (document hs p)
-unfolding document classOf spanLen kindIn words sameBytes
+document-chain : {hs : List Header} {p : Plan} → PlanFits hs p → Chain (documentPieces hs p)
+unfolding documentPieces classOf spanLen kindIn words sameBytes
 document-chain f =
     let line : All isSpace (10 ∷ []) = more refl none in
     let body = plain (byte "{") refl refl line (a-body (f .calls) (plain (byte "}") refl refl line nil .chain)) in
@@ -205,6 +205,6 @@ document-chain f =
     let graph = a-name (f .graph) (plain (byte "(") refl refl none inputs) in
     a-keyword (ascii "version") (is-word (ascii "version") refl refl refl) refl (link (version-lexes _) (a-keyword (ascii "graph") (is-word (ascii "graph") refl refl refl) refl (graph .chain)))
 
-pub lex-canonical : (hs : List Header) (p : Plan) → PlanFits hs p → length (document hs p) ≤ maxTokens → lex (canonical hs p) ≡ accepted (tokensAt 0 (document hs p))
+pub lex-canonical : (hs : List Header) (p : Plan) → PlanFits hs p → length (documentPieces hs p) ≤ maxTokens → lex (canonical hs p) ≡ accepted (tokensAt 0 (documentPieces hs p))
 unfolding canonical
 lex-canonical hs p f h = lex-again 0 0 (document-chain f) (omega arith)

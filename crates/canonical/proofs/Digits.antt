@@ -13,27 +13,27 @@ use Rattle.lexis.specs.Class as Class
 use Rattle.lexis.specs.Bytes.{classOf, isDigit}
 use Rattle.lexis.specs.Number.{valueFrom}
 use Rattle.lexis.proofs.Caps.{value-snoc}
-use Rattle.canonical.specs.Spelling.{digitsBy, digits}
+use Rattle.canonical.specs.Spelling.{decimalBy, decimal}
 use Rattle.canonical.proofs.Fit.{All, none, more}
 use Rattle.canonical.proofs.Runs.{all-append}
 
 -- what holds of one digit, and of a number's digits where it holds of a tenth's, holds of all digits
 module _ (P : ℕ → List ℕ → Type 0) (one : (n : ℕ) → n < 10 → P n ((byte "0" + n) ∷ []))
     (last : (n : ℕ) (s : List ℕ) → 10 ≤ n → P (n / 10) s → P n (s ++ ((byte "0" + n % 10) ∷ []))) where
-  by-fuel : (fuel n : ℕ) → n ≤ fuel → P n (digitsBy fuel n)
-  unfolding digitsBy
+  by-fuel : (fuel n : ℕ) → n ≤ fuel → P n (decimalBy fuel n)
+  unfolding decimalBy
   by-fuel zero n h = one n (omega arith)
   by-fuel (suc fuel) n h = go (ltb n 10) refl (by-fuel fuel (n / 10))
     where
-      go : (b : Bool) → ltb n 10 ≡ b → (n / 10 ≤ fuel → P (n / 10) (digitsBy fuel (n / 10))) → P n (cond b ((byte "0" + n) ∷ []) (digitsBy fuel (n / 10) ++ ((byte "0" + n % 10) ∷ [])))
+      go : (b : Bool) → ltb n 10 ≡ b → (n / 10 ≤ fuel → P (n / 10) (decimalBy fuel (n / 10))) → P n (cond b ((byte "0" + n) ∷ []) (decimalBy fuel (n / 10) ++ ((byte "0" + n % 10) ∷ [])))
       go true e ih = one n (ltb-true n 10 e)
-      go false e ih = let l = ltb-false n 10 e in last n (digitsBy fuel (n / 10)) l (ih (omega arith))
+      go false e ih = let l = ltb-false n 10 e in last n (decimalBy fuel (n / 10)) l (ih (omega arith))
 
-  by-digits : (n : ℕ) → P n (digits n)
-  unfolding digits
+  by-digits : (n : ℕ) → P n (decimal n)
+  unfolding decimal
   by-digits n = by-fuel n n (le-refl n)
 
-pub value-digits : (n : ℕ) → valueFrom 0 (digits n) ≡ n
+pub value-digits : (n : ℕ) → valueFrom 0 (decimal n) ≡ n
 unfolding valueFrom
 value-digits = by-digits (λ n s. valueFrom 0 s ≡ n) (λ n h. omega arith) (λ n s h ih. rw (value-snoc 0 s (byte "0" + n % 10), ih) (omega arith))
 
@@ -52,7 +52,7 @@ class-digit n h =
 snoc-digits : {s : List ℕ} (d : ℕ) → IsDigits s → classOf d ≡ Class.digit → IsDigits (s ++ (d ∷ []))
 snoc-digits d (some-digits h a) k = some-digits h (all-append isDigit a (more {c = d} (rw k) none))
 
-pub are-digits : (n : ℕ) → IsDigits (digits n)
+pub are-digits : (n : ℕ) → IsDigits (decimal n)
 are-digits = by-digits (λ n s. IsDigits s) (λ n h. some-digits (class-digit n h) none) (λ n s h ih. snoc-digits (byte "0" + n % 10) ih (class-digit (n % 10) (omega arith)))
 
 -- a number below ten to the k + 1 has at most k + 1 digits
@@ -63,5 +63,5 @@ few-last : (n : ℕ) (s : List ℕ) → 10 ≤ n → Few (n / 10) s → Few n (s
 few-last n s h ih zero l = absurd (omega arith)
 few-last n s h ih (suc k) l = rw length-append (omega (arith, ih k (omega arith)))
 
-pub digits-length : (k n : ℕ) → n < 10 ^ suc k → length (digits n) ≤ suc k
+pub digits-length : (k n : ℕ) → n < 10 ^ suc k → length (decimal n) ≤ suc k
 digits-length k n = by-digits Few (λ n h k l. omega arith) few-last n k

@@ -18,7 +18,7 @@ use Rattle.syntax.specs.Grammar.{IsTypeName}
 use Rattle.syntax.specs.Grammar.IsTypeName.{is-tensor, is-extent, is-scalar, is-logical, is-string}
 use Rattle.rules.specs.Reading.{Val, vName, vExtent, vString, where-true, nameAt, literalAt, isNumber, contentOf, numberOf, truthOf}
 use Rattle.canonical.specs.declared.place.Place.{Place}
-use Rattle.canonical.specs.Spelling.{digits, spellNumber, spellString, spellTruth}
+use Rattle.canonical.specs.Spelling.{decimal, spellNumber, spellString, spellTruth}
 use Rattle.canonical.specs.Layout.{pieces}
 use Rattle.canonical.specs.Writing.{Puts, PutsWord, leafAt}
 use Rattle.canonical.proofs.Spelled.{second}
@@ -92,7 +92,7 @@ module _ {at : ℕ} {u : Ty} (k : ℕ) (w : List ℕ) (t : Token) {v : Val} (is 
     unfolding pieces
     puts-truth n p = rw (truth-is w is (rw n at here)) (p Kind.truth)
 
-    pub puts-extent : (k ≡ Kind.name → ⊥) → at ≡ extentWord → (valueFrom 0 w ≤ maxExtent → PutsWord (digits (valueFrom 0 w)) out out' s r) → Puts (pieces v) out out' s r
+    pub puts-extent : (k ≡ Kind.name → ⊥) → at ≡ extentWord → (valueFrom 0 w ≤ maxExtent → PutsWord (decimal (valueFrom 0 w)) out out' s r) → Puts (pieces v) out out' s r
     unfolding pieces
     puts-extent n x p = let q = extent-is k w x is (literal n) in rw (q .1) (p (q .0) Kind.whole)
 

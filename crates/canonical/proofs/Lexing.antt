@@ -22,7 +22,7 @@ use Rattle.lexis.specs.declared.token.Lexeme.{Lexeme}
 use Rattle.lexis.specs.declared.token.Lexeme.the-variants.{Token}
 use Rattle.lexis.proofs.Lexer.{lex-nil, lex-gap, lex-token}
 use Rattle.lexis.proofs.Marks.{mark-alone, mark-equal}
-use Rattle.canonical.specs.Spelling.{digits, spellExponent, spellNumber, quoted}
+use Rattle.canonical.specs.Spelling.{decimal, spellExponent, spellNumber, quoted}
 use Rattle.canonical.specs.Pieces.{Piece, text, tokensAt}
 use Rattle.canonical.proofs.Fit.{All, none, more, IsWord, IsNumber}
 use Rattle.canonical.proofs.Runs.{next, span-again}
@@ -126,7 +126,7 @@ word-lexes w sp r h e a end =
     let first = word-begins w h in
     lexes sp r first refl refl a (by-word (begins-append (sp ++ r) first) (rw (← e) (word-again w (sp ++ r) h end)))
 
-pub whole-lexes : (n : ℕ) (r : List ℕ) → n < mantissaEnd → Apart (next r) → Lexes (record { kind = Kind.whole; bytes = digits n; space = [] }) r
+pub whole-lexes : (n : ℕ) (r : List ℕ) → n < mantissaEnd → Apart (next r) → Lexes (record { kind = Kind.whole; bytes = decimal n; space = [] }) r
 whole-lexes n r h end =
     let first = digits-begin (are-digits n) in
     lexes [] r first refl refl none (by-number (begins-append r first) (whole-again r end n h))

@@ -18,18 +18,18 @@ use Rattle.rules.proofs.Parts.{First, first-of}
 use Rattle.canonical.specs.declared.place.Place.{Place}
 use Rattle.canonical.specs.Pieces.{Piece}
 use Rattle.canonical.specs.Plan.{spellings}
-use Rattle.canonical.specs.Layout.{mark, names, moreNames}
-use Rattle.canonical.specs.Layout.{aName as aNamePiece}
+use Rattle.canonical.specs.Layout.{mark, namesPieces, moreNamesPieces}
+use Rattle.canonical.specs.Layout.{namePiece}
 use Rattle.canonical.specs.Writing.{Puts, PutsWord}
 use Rattle.canonical.proofs.Putting.{puts-then, puts-same}
 
 -- the names of the row that begins ts, if one does, were put
 abbrev pub PutsNames : List Token → List ℕ → List ℕ → Place → Place → Type 0
-PutsNames ts out out' s s' = (xs us : List Token) → row plain (commas rightRound) (expect aName) ts ≡ ok xs us → Puts (names (spellings xs)) out out' s s'
+PutsNames ts out out' s s' = (xs us : List Token) → row plain (commas rightRound) (expect aName) ts ≡ ok xs us → Puts (namesPieces (spellings xs)) out out' s s'
 
 -- the names after a comma
-after-comma : {ts us xs : List Token} → Rowed rightRound (expect aName) ts us xs → (r : List Piece) → mark (ascii ",") ∷ names (spellings xs) r ≡ moreNames (spellings xs) r
-unfolding names moreNames
+after-comma : {ts us xs : List Token} → Rowed rightRound (expect aName) ts us xs → (r : List Piece) → mark (ascii ",") ∷ namesPieces (spellings xs) r ≡ moreNamesPieces (spellings xs) r
+unfolding namesPieces moreNamesPieces
 after-comma (last k c) r = refl
 after-comma (next k c m) r = refl
 
@@ -44,29 +44,29 @@ module _ (text table : List ℕ) (n i : ℕ) where
   pub names-none : {out out' : List ℕ} {s s' : Place} → n ≤ i → PutsNames (toks text table n i) out out' s s'
   names-none {out} {out'} {s} {s'} h xs us k = go (row-here k)
     where
-      go : {ys : List Token} → Rowed rightRound (expect aName) (toks text table n i) us ys → Puts (names (spellings xs)) out out' s s'
+      go : {ys : List Token} → Rowed rightRound (expect aName) (toks text table n i) us ys → Puts (namesPieces (spellings xs)) out out' s s'
       go (last k c) = absurd (omega (arith, name-here k .inside))
       go (next k c m) = absurd (omega (arith, name-here k .inside))
 
   module _ {out a : List ℕ} {s p : Place} (put : PutsWord (tokenAt text table i .bytes) out a s p) {c : ℕ} (sees : c ≡ lookahead (toks text table n (i + 1))) where
     pub names-last : (c ≡ comma → ⊥) → PutsNames (toks text table n i) out a s p
-    unfolding names moreNames
+    unfolding namesPieces moreNamesPieces
     names-last w xs us k = go (row-here k)
       where
-        go : {ys : List Token} → Rowed rightRound (expect aName) (toks text table n i) us ys → Puts (names (spellings ys)) out a s p
+        go : {ys : List Token} → Rowed rightRound (expect aName) (toks text table n i) us ys → Puts (namesPieces (spellings ys)) out a s p
         go (last k e) = rw (← (name-here k .here)) (put Kind.name)
         go (next k e m) = absurd (w (sees ∙ ap lookahead (name-here k .rest) ∙ e))
 
     pub names-next : {b o : List ℕ} {q s' : Place} → c ≡ comma → PutsWord (ascii ",") a b p q → PutsNames (toks text table n (i + 2)) b o q s' → PutsNames (toks text table n i) out o s s'
-    unfolding names
+    unfolding namesPieces
     names-next {b} {o} {q} {s'} w then on xs us k = go (row-here k)
       where
-        go : {ys : List Token} → Rowed rightRound (expect aName) (toks text table n i) us ys → Puts (names (spellings ys)) out o s s'
+        go : {ys : List Token} → Rowed rightRound (expect aName) (toks text table n i) us ys → Puts (namesPieces (spellings ys)) out o s s'
         go (last k e) = let z : comma ≡ rightRound = sym w ∙ sees ∙ ap lookahead (name-here k .rest) ∙ e in absurd (omega arith)
         go (next {c = d} {us = ws} {xs = zs} k e m) =
             let f = first-of text table n (i + 1) d ws (name-here k .rest) in
             let j : i + 2 ≡ i + 1 + 1 = omega arith in
             let g : toks text table n (i + 2) ≡ ws = ap (λ (x : ℕ). toks text table n x) j ∙ f .rest in
             let l = ap (row plain (commas rightRound) (expect aName)) g ∙ m in
-            rw (← (name-here k .here)) (puts-same (λ r. ap (λ (x : List Piece). aNamePiece (tokenAt text table i .bytes) ∷ x) (after-comma (row-ok rightRound (expect aName) (expect-shrinks aName) ws m) r))
+            rw (← (name-here k .here)) (puts-same (λ r. ap (λ (x : List Piece). namePiece (tokenAt text table i .bytes) ∷ x) (after-comma (row-ok rightRound (expect aName) (expect-shrinks aName) ws m) r))
             (puts-then (put Kind.name) (puts-then (then Kind.syntactic) (on zs us l))))

@@ -23,7 +23,7 @@ use Rattle.lexis.specs.declared.token.Lexeme.the-variants.{Token}
 use Rattle.lexis.proofs.Signs.{pos-sub}
 use Rattle.lexis.proofs.Reduction.{strip-is}
 use Rattle.lexis.proofs.Ranges.{range-short}
-use Rattle.canonical.specs.Spelling.{digits, spellExponent, spellNumber}
+use Rattle.canonical.specs.Spelling.{decimal, spellExponent, spellNumber}
 use Rattle.canonical.proofs.Fit.{Lowest, nought, odd, IsNumber}
 use Rattle.canonical.proofs.Runs.{next, span-again, next-seam, differs}
 use Rattle.canonical.proofs.Digits.{value-digits, IsDigits, some-digits, all-digits, are-digits, digits-length}
@@ -60,7 +60,7 @@ led-digits : (lead : ℕ) {d : List ℕ} → IsDigits d → led lead (length d) 
 led-digits lead (some-digits h a) = refl
 
 module _ (r : List ℕ) (end : Apart (next r)) where
-  run-length : (n : ℕ) → spanLen isDigit (digits n ++ r) ≡ length (digits n)
+  run-length : (n : ℕ) → spanLen isDigit (decimal n ++ r) ≡ length (decimal n)
   run-length n = span-again isDigit r (all-digits (are-digits n)) (end .digit)
 
   exponent-length : (e : ℤ) → expLen (byte "e" ∷ (spellExponent e ++ r)) ≡ suc (length (spellExponent e))
@@ -71,7 +71,7 @@ module _ (r : List ℕ) (end : Apart (next r)) where
   exponent-written : (e : ℤ) → writtenIn (byte "e" ∷ (spellExponent e ++ r)) ≡ natAbs e
   unfolding signLen spellExponent
   exponent-written (pos n) = rw (no-sign r (are-digits n), run-length n, take-append-seam) (value-digits n)
-  exponent-written (negsuc n) = rw (run-length (suc n), take-append-seam (digits (suc n)) r) (value-digits (suc n))
+  exponent-written (negsuc n) = rw (run-length (suc n), take-append-seam (decimal (suc n)) r) (value-digits (suc n))
 
   exponent-sign : (e : ℤ) → eqb (next (spellExponent e ++ r)) (byte "-") ≡ isMinus e
   unfolding spellExponent
@@ -88,13 +88,13 @@ strip-odd : (most m : ℕ) → (m % 10 ≡ 0 → ⊥) → strip most m ≡ recor
 strip-odd most m h = rw mul-one at (strip-is 0 most m zero-le h)
 
 abbrev spelt : Reduced → List ℕ → List ℕ
-spelt n r = digits (n .mantissa) ++ (byte "e" ∷ (spellExponent (n .exponent) ++ r))
+spelt n r = decimal (n .mantissa) ++ (byte "e" ∷ (spellExponent (n .exponent) ++ r))
 
 abbrev parts : Reduced → Parts
-parts n = record { whole = length (digits (n .mantissa)); frac = 0; exp = suc (length (spellExponent (n .exponent))) }
+parts n = record { whole = length (decimal (n .mantissa)); frac = 0; exp = suc (length (spellExponent (n .exponent))) }
 
 module _ (r : List ℕ) (end : Apart (next r)) (n : Reduced) where
-  mantissa-run : spanLen isDigit (spelt n r) ≡ length (digits (n .mantissa))
+  mantissa-run : spanLen isDigit (spelt n r) ≡ length (decimal (n .mantissa))
   unfolding classOf
   mantissa-run = span-again isDigit (byte "e" ∷ (spellExponent (n .exponent) ++ r)) (all-digits (are-digits (n .mantissa))) refl
 
@@ -113,7 +113,7 @@ module _ (r : List ℕ) (end : Apart (next r)) (n : Reduced) where
   unfolding minusOf
   minus-again = simp (has-exponent, add-zero, getD-append-add, exponent-sign r end (n .exponent))
 
-  digits-again : digitsOf (spelt n r) (parts n) ≡ digits (n .mantissa)
+  digits-again : digitsOf (spelt n r) (parts n) ≡ decimal (n .mantissa)
   digits-again = simp (take-append-seam, append-nil)
 
 reduced-again : (r : List ℕ) → Apart (next r) → {n : Reduced} → Lowest n → reducedOf (spelt n r) (parts n) ≡ n
@@ -122,7 +122,7 @@ reduced-again r end nought = simp (digits-again r end (record { mantissa = 0; ex
 reduced-again r end (odd {m} {e} h) =
     let n : Reduced = record { mantissa = m; exponent = e } in
     let some : (m ≡ 0 → ⊥) = λ z. h (omega arith) in
-    simp (digits-again r end n, value-digits, ne-eqb m 0 some, strip-odd (length (digits m)) m h, minus-again r end n, written-again r end n, exponent-again e)
+    simp (digits-again r end n, value-digits, ne-eqb m 0 some, strip-odd (length (decimal m)) m h, minus-again r end n, written-again r end n, exponent-again e)
 
 -- ---- the spelling by itself
 
@@ -176,9 +176,9 @@ unfolding spellNumber
 number-again r end n h =
     let m = n .mantissa in
     let b = small-bounds n (h .small) in
-    let len : length (spellNumber n) ≡ length (digits m) + suc (length (spellExponent (n .exponent))) = length-append (digits m) (byte "e" ∷ spellExponent (n .exponent)) in
+    let len : length (spellNumber n) ≡ length (decimal m) + suc (length (spellExponent (n .exponent))) = length-append (decimal m) (byte "e" ∷ spellExponent (n .exponent)) in
     number-of Kind.real (spellNumber n) r (parts n) (rw append-assoc (parts-again r end n)) (omega arith)
-    (rw (ne-eqb (length (spellNumber n)) (length (digits m)) (λ z. omega arith)))
+    (rw (ne-eqb (length (spellNumber n)) (length (decimal m)) (λ z. omega arith)))
     end (omega (arith, digits-length 17 m (b .0), exponent-short (n .exponent) (b .1))) (range-number n h)
 
 -- whole numbers
@@ -191,16 +191,16 @@ module _ (r : List ℕ) (end : Apart (next r)) where
   unfolding expLen isE classOf
   no-exponent = rw (differs isLetter (byte "e") (next r) true false refl (end .letter) true≢false, differs isLetter (byte "E") (next r) true false refl (end .letter) true≢false)
 
-  whole-parts : (n : ℕ) → partsOf (digits n ++ r) ≡ record { whole = length (digits n); frac = 0; exp = 0 }
+  whole-parts : (n : ℕ) → partsOf (decimal n ++ r) ≡ record { whole = length (decimal n); frac = 0; exp = 0 }
   unfolding partsOf
   whole-parts n = simp (run-length r end n, drop-append-seam, no-fraction, add-zero, no-exponent)
 
-range-whole : (n : ℕ) → n < mantissaEnd → inRange (digits n) (partsOf (digits n)) ≡ true
+range-whole : (n : ℕ) → n < mantissaEnd → inRange (decimal n) (partsOf (decimal n)) ≡ true
 range-whole n h =
-    let none : partsOf (digits n) .exp ≡ 0 = ap (λ (p : Parts). p .exp) (rw append-nil at (whole-parts [] end-apart n)) in
-    sym (range-short (digits n) (partsOf (digits n)) refl none (digits-length 17 n h))
+    let none : partsOf (decimal n) .exp ≡ 0 = ap (λ (p : Parts). p .exp) (rw append-nil at (whole-parts [] end-apart n)) in
+    sym (range-short (decimal n) (partsOf (decimal n)) refl none (digits-length 17 n h))
 
-pub whole-again : (r : List ℕ) → Apart (next r) → (n : ℕ) → n < mantissaEnd → numberLexeme (digits n ++ r) ≡ Token Kind.whole (length (digits n))
+pub whole-again : (r : List ℕ) → Apart (next r) → (n : ℕ) → n < mantissaEnd → numberLexeme (decimal n ++ r) ≡ Token Kind.whole (length (decimal n))
 whole-again r end n h =
-    number-of Kind.whole (digits n) r (record { whole = length (digits n); frac = 0; exp = 0 }) (whole-parts r end n) (omega arith)
-    (rw (eq-eqb (length (digits n)) (length (digits n)) refl)) end (omega (arith, digits-length 17 n h)) (range-whole n h)
+    number-of Kind.whole (decimal n) r (record { whole = length (decimal n); frac = 0; exp = 0 }) (whole-parts r end n) (omega arith)
+    (rw (eq-eqb (length (decimal n)) (length (decimal n)) refl)) end (omega (arith, digits-length 17 n h)) (range-whole n h)

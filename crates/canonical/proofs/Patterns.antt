@@ -21,7 +21,7 @@ use Rattle.lexis.specs.Lexer.{Token}
 use Rattle.syntax.specs.declared.Parsed.{Parsed}
 use Rattle.syntax.specs.declared.Parsed.the-variants.{Done, Fault}
 use Rattle.syntax.specs.Symbol.{symOf, leftRound, rightRound, leftSquare, rightSquare, comma, equal}
-use Rattle.syntax.specs.Symbol.{aName as nameSymbol}
+use Rattle.syntax.specs.Symbol.{namePiece as nameSymbol}
 use Rattle.syntax.specs.Tree.{Value, Values, Ty, Tys}
 use Rattle.syntax.specs.Tree.Value.{name, literal, array, tuple}
 use Rattle.syntax.specs.Tree.Values.{none, more}
@@ -45,7 +45,7 @@ use Rattle.rules.proofs.Parts.{toks-split, first-of}
 use Rattle.rules.proofs.Phrases.{left-is}
 use Rattle.canonical.specs.declared.place.Place.{Place}
 use Rattle.canonical.specs.Pieces.{Piece}
-use Rattle.canonical.specs.Layout.{mark, aName, pieces, items, moreItems, leftPieces}
+use Rattle.canonical.specs.Layout.{mark, namePiece, pieces, items, moreItems, leftPieces}
 use Rattle.canonical.specs.Writing.{Puts, PutsWord, patternPiece, patternPieces, endsAt, isBracketed}
 use Rattle.canonical.proofs.Putting.{puts-none, puts-then, puts-same}
 
@@ -55,11 +55,11 @@ mark-piece : (t : Token) (s : ℕ) → symOf t ≡ s → among (ascii ",[]()") s
 unfolding patternPiece
 mark-piece t s h m = rw (h, m)
 
-word-piece : (t : Token) → among (ascii ",[]()") (symOf t) ≡ false → patternPiece t ≡ aName (t .bytes)
+word-piece : (t : Token) → among (ascii ",[]()") (symOf t) ≡ false → patternPiece t ≡ namePiece (t .bytes)
 unfolding patternPiece
 word-piece t m = rw m
 
-name-piece : (t : Token) → symOf t ≡ nameSymbol → patternPiece t ≡ aName (t .bytes)
+name-piece : (t : Token) → symOf t ≡ nameSymbol → patternPiece t ≡ namePiece (t .bytes)
 name-piece t h = word-piece t (rw h)
 
 pieces-append : (ts us : List Token) (r : List Piece) → patternPieces (ts ++ us) r ≡ patternPieces ts (patternPieces us r)

@@ -12,7 +12,7 @@ use lib.Seq.{drop-cons}
 use Rattle.canonical.specs.declared.place.Place.{Place}
 use Rattle.canonical.specs.Pieces.{Piece, text}
 use Rattle.canonical.specs.Layout.{piece}
-use Rattle.canonical.specs.Writing.{nextByte, storeByte, passed, stored, nextToken, tallied, onward, Puts, PutsWord}
+use Rattle.canonical.specs.Writing.{nextByte, storeByte, passed, stored, nextToken, tallied, placeAfter, Puts, PutsWord}
 
 -- ---- bytes
 
@@ -90,7 +90,7 @@ stored-length out at (b ∷ w) = stored-length (storeByte out at b) (nextByte at
 -- one piece: its bytes and the white space after it were stored, and one token more was counted
 pub puts-piece : (p : Piece) {out out' : List ℕ} {s s' : Place}
     → out' ≡ stored out (s .bytes) (p .bytes ++ p .space) → s' .bytes ≡ passed (s .bytes) (p .bytes ++ p .space) → s' .tokens ≡ nextToken (s .tokens) → Puts (λ r. p ∷ r) out out' s s'
-unfolding text tallied onward
+unfolding text tallied placeAfter
 puts-piece p {out} {out'} {s} {s'} o b t = record {
   bytes = λ r. ap (stored out (s .bytes)) (sym (append-assoc (p .bytes) (p .space) (text r))) ∙ stored-append out (s .bytes) (p .bytes ++ p .space) (text r) ∙ rw (o, b);
   place = λ r. rw (t, b, ← append-assoc (p .bytes) (p .space) (text r), passed-append (s .bytes) (p .bytes ++ p .space) (text r));
@@ -111,7 +111,7 @@ puts-then {Q = Q} p q = record { bytes = λ r. p .bytes (Q r) ∙ q .bytes r; pl
 pub puts-same : {P Q : List Piece → List Piece} {out out' : List ℕ} {s s' : Place} → ((r : List Piece) → P r ≡ Q r) → Puts P out out' s s' → Puts Q out out' s s'
 puts-same {out = out} {s = s} e p = record {
   bytes = λ r. ap (λ (x : List Piece). stored out (s .bytes) (text x)) (sym (e r)) ∙ p .bytes r;
-  place = λ r. ap (onward s) (sym (e r)) ∙ p .place r;
+  place = λ r. ap (placeAfter s) (sym (e r)) ∙ p .place r;
 }
 
 -- all that was put, where nothing follows
@@ -119,6 +119,6 @@ pub puts-stored : {P : List Piece → List Piece} {out out' : List ℕ} {s s' : 
 unfolding text stored
 puts-stored p = sym (p .bytes [])
 
-pub puts-onward : {P : List Piece → List Piece} {out out' : List ℕ} {s s' : Place} → Puts P out out' s s' → s' ≡ onward s (P [])
-unfolding text passed tallied onward
+pub puts-onward : {P : List Piece → List Piece} {out out' : List ℕ} {s s' : Place} → Puts P out out' s s' → s' ≡ placeAfter s (P [])
+unfolding text passed tallied placeAfter
 puts-onward p = sym (p .place [])

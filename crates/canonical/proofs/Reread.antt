@@ -21,9 +21,9 @@ use Rattle.syntax.specs.Tree.Values.{none, more}
 use Rattle.syntax.specs.Tree.Ty.{arrayOf}
 use Rattle.syntax.specs.Grammar.{Leaves, takesLiterals, Spells, a-name, a-literal, an-empty-array, an-array, a-tuple, Items, last-item, next-item}
 use Rattle.rules.specs.Reading.{Val, Vals, vArray, a-val, contentOf, literalAt, readAt, readAll, readEach}
-use Rattle.canonical.specs.Spelling.{digits, spellNumber, quoteFor, quoted, spellString, spellTruth}
+use Rattle.canonical.specs.Spelling.{decimal, spellNumber, quoteFor, quoted, spellString, spellTruth}
 use Rattle.canonical.specs.Pieces.{Piece, tokensAt}
-use Rattle.canonical.specs.Layout.{piece, aName, mark, pieces, items, moreItems}
+use Rattle.canonical.specs.Layout.{piece, namePiece, mark, pieces, items, moreItems}
 use Rattle.canonical.proofs.Fit.{Fits, fit-name, fit-number, fit-scalar, fit-extent, fit-string, fit-logical, fit-truth, fit-array, fit-tuple}
 use Rattle.canonical.proofs.Digits.{value-digits}
 use Rattle.canonical.proofs.Numbers.{read-number}
@@ -88,10 +88,10 @@ mutual
   unfolding tokensAt pieces items moreItems readAt readAll readEach symOf symbolOf spellString
 
   pub value-back : {m : Leaves} {b : ℕ} {u : Ty} {v : Val} → Fits m b u v → (at : ℕ) (r : List Piece) → Back m b u v at (pieces v r) r
-  value-back (fit-name {w = w} t n) at r = record { tree = name (placed at (aName w)); after = past at (aName w); spells = a-name t refl; reads = refl }
+  value-back (fit-name {w = w} t n) at r = record { tree = name (placed at (namePiece w)); after = past at (namePiece w); spells = a-name t refl; reads = refl }
   value-back (fit-number {n = n} t h) at r = literal-back Kind.real (spellNumber n) at r t refl (simp (read-number n (h .lowest)))
   value-back (fit-scalar {n = n} t h) at r = literal-back Kind.real (spellNumber n) at r t refl (simp (read-number n (h .lowest)))
-  value-back (fit-extent {n = n} t h) at r = literal-back Kind.whole (digits n) at r t refl (simp (value-digits n, le-leb n maxExtent h))
+  value-back (fit-extent {n = n} t h) at r = literal-back Kind.whole (decimal n) at r t refl (simp (value-digits n, le-leb n maxExtent h))
   value-back (fit-string {s = s} t h) at r = literal-back Kind.string (spellString s) at r t refl (simp (content-again (quoteFor s) s))
   value-back (fit-logical {x = x} t) at r = literal-back Kind.truth (spellTruth x) at r t refl (simp (truth-again x))
   value-back (fit-truth {x = x} t) at r = literal-back Kind.truth (spellTruth x) at r t refl (simp (truth-again x))

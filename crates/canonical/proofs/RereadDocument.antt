@@ -22,8 +22,8 @@ use Rattle.rules.specs.Reading.{Val, a-val, readAt, readEach}
 use Rattle.canonical.specs.Plan.{PlanCall, Plan, spellings}
 use Rattle.canonical.specs.Pieces.{Piece, tokensAt}
 use Rattle.canonical.specs.Layout as Layout
-use Rattle.canonical.specs.Layout.{aName, mark, spaced, lined, pieces, items, moreItems, leftPieces, moreNames}
-use Rattle.canonical.specs.Layout.{argument, moreArguments, arguments, callPieces, callsPieces, document}
+use Rattle.canonical.specs.Layout.{namePiece, mark, spaced, lined, pieces, items, moreItems, leftPieces, moreNamesPieces}
+use Rattle.canonical.specs.Layout.{argumentPieces, moreArgumentsPieces, argumentsPieces, callPieces, callsPieces, documentPieces}
 use Rattle.canonical.proofs.Fit.{LeftFits, alone, several, FitsParams, no-param, a-param, CallFits}
 use Rattle.canonical.proofs.Fit.{CallsFit, one-call, more-calls, NamesFit, one-name, more-names, PlanFits}
 use Rattle.canonical.proofs.Shape as Shape
@@ -69,31 +69,31 @@ module _ {A : Type 0} {Item : List Token → A → List Token → Type 0} {Are :
 abbrev Spelt : List (List ℕ) → List Token → Type 0
 Spelt ws ts = spellings ts ≡ ws
 
-name-back : (w : List ℕ) {ws : List (List ℕ)} {qs r : List Piece} (at : ℕ) → OthersBack IsName (Spelt ws) (past at (aName w)) qs r
-    → RowBack IsName (Spelt (w ∷ ws)) at (aName w ∷ qs) r
+name-back : (w : List ℕ) {ws : List (List ℕ)} {qs r : List Piece} (at : ℕ) → OthersBack IsName (Spelt ws) (past at (namePiece w)) qs r
+    → RowBack IsName (Spelt (w ∷ ws)) at (namePiece w ∷ qs) r
 unfolding tokensAt symOf symbolOf
 name-back w at x = row-back x (the-name refl) (λ ts e. ap (λ (l : List (List ℕ)). w ∷ l) e)
 
 module _ (s : List ℕ) (r : List Piece) where
-  more-names-back : (ws : List (List ℕ)) (at : ℕ) → OthersBack IsName (Spelt ws) at (moreNames ws (closing s ∷ r)) r
-  unfolding moreNames
+  more-names-back : (ws : List (List ℕ)) (at : ℕ) → OthersBack IsName (Spelt ws) at (moreNamesPieces ws (closing s ∷ r)) r
+  unfolding moreNamesPieces
   more-names-back [] at = no-others s at r refl
-  more-names-back (w ∷ ws) at = let i = past at (mark (ascii ",")) in others at (name-back w i (more-names-back ws (past i (aName w))))
+  more-names-back (w ∷ ws) at = let i = past at (mark (ascii ",")) in others at (name-back w i (more-names-back ws (past i (namePiece w))))
 
   names-back : {ws : List (List ℕ)} → NamesFit ws → (at : ℕ) → RowBack IsName (Spelt ws) at (Layout.names ws (closing s ∷ r)) r
   unfolding Layout.names
-  names-back (one-name {w} h) at = name-back w at (more-names-back [] (past at (aName w)))
-  names-back (more-names {w} {ws} h f) at = name-back w at (more-names-back ws (past at (aName w)))
+  names-back (one-name {w} h) at = name-back w at (more-names-back [] (past at (namePiece w)))
+  names-back (more-names {w} {ws} h f) at = name-back w at (more-names-back ws (past at (namePiece w)))
 
 -- ---- the parts of calls
 
 -- where the value of an argument at `at` stands
 abbrev valueAt : Param → ℕ → ℕ
-valueAt p at = past (past at (aName (p .name .bytes))) (mark (ascii "="))
+valueAt p at = past (past at (namePiece (p .name .bytes))) (mark (ascii "="))
 
 argument-back : {b : ℕ} {p : Param} {ps : List Param} {v : Val} {vs : List Val} {qs r : List Piece} (at : ℕ)
     (x : Back both b (p .ty) v (valueAt p at) (pieces v qs) qs) → OthersBack (IsArg b) (Named ps vs) (x .after) qs r
-    → RowBack (IsArg b) (Named (p ∷ ps) (v ∷ vs)) at (argument p v qs) r
+    → RowBack (IsArg b) (Named (p ∷ ps) (v ∷ vs)) at (argumentPieces p v qs) r
 unfolding tokensAt symOf symbolOf
 argument-back at x y = row-back y (a-named refl refl (x .spells)) (λ xs n. an-arg refl (x .reads) n)
 
@@ -145,20 +145,20 @@ left-back (several {w = w} {vs = vs} f g h) at r =
 
 module _ {b : ℕ} (r : List Piece) where
   more-arguments-back : {ps : List Param} {vs : List Val} → FitsParams b ps vs → (at : ℕ)
-      → OthersBack (IsArg b) (Named ps vs) at (moreArguments ps vs (mark (ascii ")") ∷ r)) r
-  unfolding moreArguments
+      → OthersBack (IsArg b) (Named ps vs) at (moreArgumentsPieces ps vs (mark (ascii ")") ∷ r)) r
+  unfolding moreArgumentsPieces
   more-arguments-back no-param at = no-others [] at r no-arg
   more-arguments-back (a-param {p} {ps} {v} {vs} n f fs) at =
       let i = past at (mark (ascii ",")) in
-      let x = value-back f (valueAt p i) (moreArguments ps vs (mark (ascii ")") ∷ r)) in
+      let x = value-back f (valueAt p i) (moreArgumentsPieces ps vs (mark (ascii ")") ∷ r)) in
       others at (argument-back i x (more-arguments-back fs (x .after)))
 
   arguments-back : {ps : List Param} {vs : List Val} → FitsParams b ps vs → 0 < length ps → (at : ℕ)
-      → RowBack (IsArg b) (Named ps vs) at (arguments ps vs (mark (ascii ")") ∷ r)) r
-  unfolding arguments
+      → RowBack (IsArg b) (Named ps vs) at (argumentsPieces ps vs (mark (ascii ")") ∷ r)) r
+  unfolding argumentsPieces
   arguments-back no-param l at = absurd (omega arith)
   arguments-back (a-param {p} {ps} {v} {vs} n f fs) l at =
-      let x = value-back f (valueAt p at) (moreArguments ps vs (mark (ascii ")") ∷ r)) in
+      let x = value-back f (valueAt p at) (moreArgumentsPieces ps vs (mark (ascii ")") ∷ r)) in
       argument-back at x (more-arguments-back fs (x .after))
 
 -- ---- calls
@@ -166,10 +166,10 @@ module _ {b : ℕ} (r : List Piece) where
 call-back : {hs : List Header} {c : PlanCall} → CallFits hs c → (at : ℕ) (r : List Piece) → CallBack hs c at (callPieces hs c r) r
 unfolding callPieces tokensAt symOf symbolOf
 call-back {hs} {c} f at r =
-    let n = aName (c .op) in
+    let n = namePiece (c .op) in
     let o = mark (ascii "(") in
     let e = lined Kind.syntactic (ascii ";") in
-    let x = left-back (f .left) at (n ∷ o ∷ arguments (f .header .params) (c .values) (mark (ascii ")") ∷ e ∷ r)) in
+    let x = left-back (f .left) at (n ∷ o ∷ argumentsPieces (f .header .params) (c .values) (mark (ascii ")") ∷ e ∷ r)) in
     let y = arguments-back (e ∷ r) (f .values) (f .some-param) (past (past (x .after) n) o) in
     let t = placed (x .after) n in
     rw (params-found hs t (f .found t refl))
@@ -195,11 +195,11 @@ body-back {hs} (more-calls {cs = cs} f g) at r =
 -- ---- documents
 
 pub document-back : (hs : List Header) (p : Plan) → PlanFits hs p
-    → (d : Document) × (IsDocument maxBrackets (tokensAt 0 (document hs p)) d × CanonDocument hs p d)
-unfolding document tokensAt symOf symbolOf keywordSymbol sameBytes
+    → (d : Document) × (IsDocument maxBrackets (tokensAt 0 (documentPieces hs p)) d × CanonDocument hs p d)
+unfolding documentPieces tokensAt symOf symbolOf keywordSymbol sameBytes
 document-back hs p f =
     let number = lined Kind.real (ascii "1.0") in
-    let n = aName (p .graph) in
+    let n = namePiece (p .graph) in
     let o = mark (ascii "(") in
     let a = mark (ascii "->") in
     let c = lined Kind.syntactic (ascii "{") in

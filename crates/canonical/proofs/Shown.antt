@@ -12,7 +12,7 @@ use lib.Seq.{sets, sets-eq, take-append-seam}
 use Rattle.lexis.specs.Sizes.{maxText, maxTokens, workWords}
 use Rattle.lexis.specs.Answer.{answer}
 use Rattle.lexis.specs.declared.Answer.{Answer}
-use Rattle.rules.specs.Answer.{Stage, pass, stop, andThen, guard, listStages, documentStages, counted}
+use Rattle.rules.specs.Answer.{Stage, pass, stop, andThen, guard, listStages, documentStages, stageAnswer}
 use Rattle.rules.proofs.Codes.{stage-codes}
 use Rattle.rules.proofs.DocumentCodes.{document-codes}
 use Rattle.canonical.specs.Pieces.{Piece, text}
@@ -90,7 +90,7 @@ module _ (list doc : List ℕ) (work₁ work₂ : ℕ) (out : List ℕ) where
   unfolding canonAnswer outputAfter
   text-shown {a} {out'} e o z = go stages (sound-written list doc work₁ work₂ (length out)) e o
     where
-      go : (s : Stage (List ℕ)) → Sound (length out) s → a ≡ counted s length → out' ≡ outputAfter s out → Stores (shown s) out out' 0 (a .detail)
+      go : (s : Stage (List ℕ)) → Sound (length out) s → a ≡ stageAnswer s length → out' ≡ outputAfter s out → Stores (shown s) out out' 0 (a .detail)
       go (pass bytes) (passes l h) e o = rw (e, o) (in-full out bytes h l)
       go (stop r) (stops c) e o = let d : a .code ≡ r .code = ap (λ (x : Answer). x .code) e in absurd (omega (arith, d, z, c))
 
@@ -100,7 +100,7 @@ module _ (list doc : List ℕ) (work₁ work₂ : ℕ) (out : List ℕ) where
   unfolding canonAnswer outputAfter
   numbers-shown {a} {mid} {out'} {end} e o n p = go stages e o
     where
-      go : (s : Stage (List ℕ)) → a ≡ counted s length → mid ≡ outputAfter s out → Stores (shown s) out out' 0 end
+      go : (s : Stage (List ℕ)) → a ≡ stageAnswer s length → mid ≡ outputAfter s out → Stores (shown s) out out' 0 end
       go (pass bytes) e o = absurd (n (ap (λ (x : Answer). x .code) e))
       go (stop r) e o = rw (← e, ← o) p
 

@@ -21,13 +21,13 @@ use Rattle.lexis.specs.Number.{valueFrom, partsOf, writtenOf, reducedOf, isNear
 use Rattle.lexis.specs.declared.number.Reduction.the-variants.{Number, OutOfRange}
 use Rattle.rules.specs.Reading.{contentOf}
 use Rattle.rules.proofs.Extents.{too-large}
-use Rattle.canonical.specs.Spelling.{digitsBy, digits, spellExponent, holdsSingle, quoteFor}
+use Rattle.canonical.specs.Spelling.{decimalBy, decimal, spellExponent, holdsSingle, quoteFor}
 
 -- ---- digits
 
 -- enough fuel is as good as any
-digits-fuel : (f g n : ℕ) → n ≤ f → n ≤ g → digitsBy f n ≡ digitsBy g n
-unfolding digitsBy
+digits-fuel : (f g n : ℕ) → n ≤ f → n ≤ g → decimalBy f n ≡ decimalBy g n
+unfolding decimalBy
 digits-fuel zero zero n p q = refl
 digits-fuel zero (suc g) n p q = let h : n < 10 = omega arith in rw (lt-ltb n 10 h)
 digits-fuel (suc f) zero n p q = let h : n < 10 = omega arith in rw (lt-ltb n 10 h)
@@ -35,12 +35,12 @@ digits-fuel (suc f) (suc g) n p q =
     ap (λ (ds : List ℕ). cond (ltb n 10) ((byte "0" + n) ∷ []) (ds ++ ((byte "0" + n % 10) ∷ []))) (digits-fuel f g (n / 10) (omega arith) (omega arith))
 
 -- one digit, or the digits before the last one and the last one
-pub digits-one : (n : ℕ) → n < 10 → digits n ≡ (byte "0" + n) ∷ []
-unfolding digits digitsBy
+pub digits-one : (n : ℕ) → n < 10 → decimal n ≡ (byte "0" + n) ∷ []
+unfolding decimal decimalBy
 digits-one n h = digits-fuel n (suc n) n (omega arith) (omega arith) ∙ rw (lt-ltb n 10 h)
 
-pub digits-more : (n : ℕ) → 10 ≤ n → digits n ≡ digits (n / 10) ++ ((byte "0" + n % 10) ∷ [])
-unfolding digits digitsBy
+pub digits-more : (n : ℕ) → 10 ≤ n → decimal n ≡ decimal (n / 10) ++ ((byte "0" + n % 10) ∷ [])
+unfolding decimal decimalBy
 digits-more n h =
     let last : List ℕ = (byte "0" + n % 10) ∷ [] in
     digits-fuel n (suc n) n (omega arith) (omega arith) ∙ rw (le-ltb n 10 h) (ap (λ (ds : List ℕ). ds ++ last) (digits-fuel n (n / 10) (n / 10) (omega arith) (omega arith)))
@@ -95,9 +95,9 @@ module _ (e : ℤ) (near : isNear e ≡ true) where
     pub minus-casts : T (nonNeg (held (pos 0 -ℤ held e))) × Fits w64 (natAbs (held (pos 0 -ℤ held e)))
     minus-casts = let l = near-mag e near in rw read-back (tt, record { fits = omega arith })
 
-    pub minus-spelt : spellExponent e ≡ byte "-" ∷ digits (natAbs (held (pos 0 -ℤ held e)))
+    pub minus-spelt : spellExponent e ≡ byte "-" ∷ decimal (natAbs (held (pos 0 -ℤ held e)))
     unfolding spellExponent
-    minus-spelt = ap spellExponent negative ∙ ap (λ (z : ℤ). byte "-" ∷ digits (natAbs z)) (sym read-back)
+    minus-spelt = ap spellExponent negative ∙ ap (λ (z : ℤ). byte "-" ∷ decimal (natAbs z)) (sym read-back)
 
   -- one that is not negative
   module _ (plus : ltZ (held e) (pos 0) ≡ false) where
@@ -107,9 +107,9 @@ module _ (e : ℤ) (near : isNear e ≡ true) where
     pub plus-casts : T (nonNeg (held e)) × Fits w64 (natAbs (held e))
     plus-casts = let l = near-mag e near in rw positive (tt, record { fits = omega arith })
 
-    pub plus-spelt : spellExponent e ≡ digits (natAbs (held e))
+    pub plus-spelt : spellExponent e ≡ decimal (natAbs (held e))
     unfolding spellExponent
-    plus-spelt = ap spellExponent (sym (held-is e near) ∙ positive) ∙ ap (λ (z : ℤ). digits (natAbs z)) (sym positive)
+    plus-spelt = ap spellExponent (sym (held-is e near) ∙ positive) ∙ ap (λ (z : ℤ). decimal (natAbs z)) (sym positive)
 
 -- ---- numbers
 

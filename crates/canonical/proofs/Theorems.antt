@@ -16,12 +16,12 @@ use Rattle.lexis.specs.declared.Answer.{Answer}
 use Rattle.lexis.specs.Lexer.{accepted}
 use Rattle.syntax.specs.Tree.{Header, Document}
 use Rattle.syntax.proofs.Theorems.{one-document}
-use Rattle.rules.specs.Answer.{Stage, pass, stop, andThen, guard, roomy, listStages, documentStages, counted, Checked, checked, checkAnswer, tableAfter}
+use Rattle.rules.specs.Answer.{Stage, pass, stop, andThen, guard, roomy, listStages, documentStages, stageAnswer, Checked, checked, checkAnswer, tableAfter}
 use Rattle.rules.specs.Accepted.{AcceptedList, AcceptedDocument}
 use Rattle.rules.proofs.Acceptance.{list-passes, document-passes}
 use Rattle.canonical.specs.Plan.{Plan}
 use Rattle.canonical.specs.Pieces.{text}
-use Rattle.canonical.specs.Layout.{document, canonical}
+use Rattle.canonical.specs.Layout.{documentPieces, canonical}
 use Rattle.canonical.specs.Answer.{layoutOf, writingStages, written, canonAnswer, outputAfter}
 use Rattle.canonical.specs.Demand.{HasPlan, Keeps, Lent, Serves, numbers, output, bytesWritten}
 use Rattle.canonical.proofs.PlanExists.{plan-exists}
@@ -59,9 +59,9 @@ module _ (list : List ℕ) (hs : List Header) (fixed : AcceptedList list hs) whe
           list-passes list hs fixed,
           document-passes hs doc (h .tree) (h .accepted),
           h .planned,
-          le-leb (length (text (document hs p))) maxText (k .bytes),
-          le-leb (length (document hs p)) maxTokens (k .tokens),
-          le-leb (length (text (document hs p))) (length (l .out)) (s .holds),
+          le-leb (length (text (documentPieces hs p))) maxText (k .bytes),
+          le-leb (length (documentPieces hs p)) maxTokens (k .tokens),
+          le-leb (length (text (documentPieces hs p))) (length (l .out)) (s .holds),
         )
 
     -- canon writes the canonical text, from the first byte of the output on, and answers 0, 0, 0 and its length
@@ -133,20 +133,20 @@ refuses-as-check list doc l calls wires c w n =
     checks s = andThen s (λ hs. andThen (documentStages hs doc) (λ d. pass (record { headers = hs; document = d })))
 
     calls-of : Stage Checked → Answer
-    calls-of s = counted s (λ k. length (k .document .calls))
+    calls-of s = stageAnswer s (λ k. length (k .document .calls))
 
     second : (hs : List Header) (x : Stage Document)
         → (calls-of (andThen x (λ d. pass (record { headers = hs; document = d }))) .code ≡ 0 → ⊥)
-        → counted (andThen x (λ d. writingStages (layoutOf hs d) (length (l .out)))) length ≡ calls-of (andThen x (λ d. pass (record { headers = hs; document = d })))
+        → stageAnswer (andThen x (λ d. writingStages (layoutOf hs d) (length (l .out)))) length ≡ calls-of (andThen x (λ d. pass (record { headers = hs; document = d })))
     second hs (pass d) n = absurd (n refl)
     second hs (stop r) n = refl
 
-    stages : (x : Stage (List Header)) → (calls-of (checks x) .code ≡ 0 → ⊥) → counted (writes x) length ≡ calls-of (checks x)
+    stages : (x : Stage (List Header)) → (calls-of (checks x) .code ≡ 0 → ⊥) → stageAnswer (writes x) length ≡ calls-of (checks x)
     stages (pass hs) n = second hs (documentStages hs doc) n
     stages (stop r) n = refl
 
     go : (a b c d : Bool) → (calls-of (roomy (a && (b && (true && true))) (guard c (answer 2 1 maxText 0) (guard d (answer 2 2 maxText 0) (checks (listStages list))))) .code ≡ 0 → ⊥)
-        → counted (roomy (a && b) (guard c (answer 2 1 maxText 0) (guard d (answer 2 2 maxText 0) (writes (listStages list))))) length
+        → stageAnswer (roomy (a && b) (guard c (answer 2 1 maxText 0) (guard d (answer 2 2 maxText 0) (writes (listStages list))))) length
         ≡ calls-of (roomy (a && (b && (true && true))) (guard c (answer 2 1 maxText 0) (guard d (answer 2 2 maxText 0) (checks (listStages list)))))
     go false b c d n = refl
     go true false c d n = refl
@@ -157,7 +157,7 @@ refuses-as-check list doc l calls wires c w n =
 -- What check accepts, canon refuses only where the canonical text does not keep the limits, with 25, or else where the output is shorter
 -- than it, with 26 and its length.
 module _ (list doc : List ℕ) (hs : List Header) (p : Plan) (fixed : AcceptedList list hs) (h : HasPlan hs doc p) (l : Lent) (w₁ : workWords ≤ l .work₁) (w₂ : workWords ≤ l .work₂) where
-  numbers-are : numbers list doc l ≡ counted (writingStages (document hs p) (length (l .out))) length
+  numbers-are : numbers list doc l ≡ stageAnswer (writingStages (documentPieces hs p) (length (l .out))) length
   unfolding numbers canonAnswer written layoutOf
   numbers-are =
       rw (
@@ -172,22 +172,22 @@ module _ (list doc : List ℕ) (hs : List Header) (p : Plan) (fixed : AcceptedLi
 
   pub over-the-limits : (Keeps hs p → ⊥) → numbers list doc l ≡ answer 25 0 0 0
   unfolding writingStages canonical
-  over-the-limits n = numbers-are ∙ go (leb (length (text (document hs p))) maxText) (leb (length (document hs p)) maxTokens) refl refl
+  over-the-limits n = numbers-are ∙ go (leb (length (text (documentPieces hs p))) maxText) (leb (length (documentPieces hs p)) maxTokens) refl refl
     where
-      go : (a b : Bool) → leb (length (text (document hs p))) maxText ≡ a → leb (length (document hs p)) maxTokens ≡ b
-          → counted (guard (a && b) (answer 25 0 0 0) (guard (leb (length (text (document hs p))) (length (l .out))) (answer 26 0 0 (length (text (document hs p)))) (pass (text (document hs p))))) length ≡ answer 25 0 0 0
+      go : (a b : Bool) → leb (length (text (documentPieces hs p))) maxText ≡ a → leb (length (documentPieces hs p)) maxTokens ≡ b
+          → stageAnswer (guard (a && b) (answer 25 0 0 0) (guard (leb (length (text (documentPieces hs p))) (length (l .out))) (answer 26 0 0 (length (text (documentPieces hs p)))) (pass (text (documentPieces hs p))))) length ≡ answer 25 0 0 0
       go false b e f = refl
       go true false e f = refl
-      go true true e f = absurd (n (record { bytes = leb-true (length (text (document hs p))) maxText e; tokens = leb-true (length (document hs p)) maxTokens f }))
+      go true true e f = absurd (n (record { bytes = leb-true (length (text (documentPieces hs p))) maxText e; tokens = leb-true (length (documentPieces hs p)) maxTokens f }))
 
   pub over-the-output : Keeps hs p → length (l .out) < length (canonical hs p) → numbers list doc l ≡ answer 26 0 0 (length (canonical hs p))
   unfolding writingStages canonical
   over-the-output k o =
       numbers-are
       ∙ rw (
-        le-leb (length (text (document hs p))) maxText (k .bytes),
-        le-leb (length (document hs p)) maxTokens (k .tokens),
-        lt-leb (length (text (document hs p))) (length (l .out)) o,
+        le-leb (length (text (documentPieces hs p))) maxText (k .bytes),
+        le-leb (length (documentPieces hs p)) maxTokens (k .tokens),
+        lt-leb (length (text (documentPieces hs p))) (length (l .out)) o,
       )
 
 -- a refusal leaves the output as it was
@@ -195,6 +195,6 @@ pub refusal-keeps : (list doc : List ℕ) (l : Lent) → (numbers list doc l .co
 unfolding numbers canonAnswer output outputAfter
 refusal-keeps list doc l n = go (written list doc (l .work₁) (l .work₂) (length (l .out))) n
   where
-    go : (s : Stage (List ℕ)) → (counted s length .code ≡ 0 → ⊥) → tableAfter s (λ (bytes : List ℕ). bytes) (l .out) ≡ l .out
+    go : (s : Stage (List ℕ)) → (stageAnswer s length .code ≡ 0 → ⊥) → tableAfter s (λ (bytes : List ℕ). bytes) (l .out) ≡ l .out
     go (pass bytes) n = absurd (n refl)
     go (stop r) n = refl

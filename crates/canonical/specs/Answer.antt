@@ -10,15 +10,16 @@ use Rattle.lexis.specs.Sizes.{maxText, maxTokens, workWords}
 use Rattle.lexis.specs.Answer.{answer}
 use Rattle.lexis.specs.declared.Answer.{Answer}
 use Rattle.syntax.specs.Tree.{Header, Document}
-use Rattle.rules.specs.Answer.{Stage, pass, andThen, guard, roomy, short, listStages, documentStages, counted, tableAfter}
+use Rattle.rules.specs.Answer.{Stage, pass, andThen, guard, bothStages, guarded, stageAnswer, tableAfter}
+use Rattle.canonical.specs.Code as Code
 use Rattle.canonical.specs.Plan.{Plan, planOf}
 use Rattle.canonical.specs.Pieces.{Piece, text}
-use Rattle.canonical.specs.Layout.{document}
+use Rattle.canonical.specs.Layout.{documentPieces}
 
 -- the pieces of a document's canonical text; an accepted document has a plan
 abbrev pub laidOut : List Header → Option Plan → List Piece
 laidOut hs nothing = []
-laidOut hs (some p) = document hs p
+laidOut hs (some p) = documentPieces hs p
 
 unfoldable pub layoutOf : List Header → Document → List Piece
 layoutOf hs d = laidOut hs (planOf hs d)
@@ -27,23 +28,35 @@ layoutOf hs d = laidOut hs (planOf hs d)
 -- than they are; the detail is their length.
 unfoldable pub writingStages : List Piece → ℕ → Stage (List ℕ)
 writingStages ps out =
-    guard (leb (length (text ps)) maxText && leb (length ps) maxTokens) (answer 25 0 0 0)
-    (guard (leb (length (text ps)) out) (answer 26 0 0 (length (text ps)))
+    guard (leb (length (text ps)) maxText && leb (length ps) maxTokens) (answer Code.overLimits 0 0 0)
+    (guard (leb (length (text ps)) out) (answer Code.shortOutput 0 0 (length (text ps)))
     (pass (text ps)))
 
--- canon, from both texts and the lengths of both work areas and of the output: check's stages, then these
-unfoldable pub written : List ℕ → List ℕ → ℕ → ℕ → ℕ → Stage (List ℕ)
-written list doc work₁ work₂ out =
-    roomy (leb workWords work₁ && leb workWords work₂)
-    (short 1 list
-    (short 2 doc
-    (andThen (listStages list) (λ hs.
-    andThen (documentStages hs doc) (λ d.
-    writingStages (layoutOf hs d) out)))))
+-- the stages of both texts, then these
+unfoldable pub textStages : List ℕ → List ℕ → ℕ → Stage (List ℕ)
+textStages list doc out = andThen (bothStages list doc) (λ k. writingStages (layoutOf (k .headers) (k .document)) out)
+
+-- ---- canon: from both texts and the lengths of what is lent beside them
+
+-- the lengths of both work areas and of the output
+pub record CanonRoom : Type 0 where
+  pub work₁ : ℕ
+  pub work₂ : ℕ
+  pub out : ℕ
+
+abbrev pub canonRoom : List ℕ → List ℕ → List ℕ → CanonRoom
+canonRoom work₁ work₂ out = record { work₁ = length work₁; work₂ = length work₂; out = length out }
+
+-- the room that canon asks; the output may have any length
+abbrev pub canonServes : CanonRoom → Bool
+canonServes l = leb workWords (l .work₁) && leb workWords (l .work₂)
+
+unfoldable pub written : List ℕ → List ℕ → CanonRoom → Stage (List ℕ)
+written list doc l = guarded (canonServes l) list doc (textStages list doc (l .out))
 
 -- acceptance counts the bytes written
-unfoldable pub canonAnswer : List ℕ → List ℕ → ℕ → ℕ → ℕ → Answer
-canonAnswer list doc work₁ work₂ out = counted (written list doc work₁ work₂ out) length
+unfoldable pub canonAnswer : List ℕ → List ℕ → CanonRoom → Answer
+canonAnswer list doc l = stageAnswer (written list doc l) length
 
 -- the output: the canonical text from its first byte on; beyond that, and after a refusal, as it was
 unfoldable pub outputAfter : Stage (List ℕ) → List ℕ → List ℕ

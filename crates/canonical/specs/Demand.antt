@@ -9,8 +9,8 @@ use Rattle.lexis.specs.declared.Answer.{Answer}
 use Rattle.syntax.specs.Tree.{Header, Document}
 use Rattle.rules.specs.Accepted.{AcceptedDocument}
 use Rattle.canonical.specs.Plan.{Plan, planOf}
-use Rattle.canonical.specs.Layout.{document, canonical}
-use Rattle.canonical.specs.Answer.{written, canonAnswer, outputAfter}
+use Rattle.canonical.specs.Layout.{documentPieces, canonical}
+use Rattle.canonical.specs.Answer.{CanonRoom, written, canonAnswer, outputAfter}
 
 -- a document that is accepted under these headers, and its plan
 pub record HasPlan (hs : List Header) (doc : List ℕ) (p : Plan) : Type 0 where
@@ -21,13 +21,16 @@ pub record HasPlan (hs : List Header) (doc : List ℕ) (p : Plan) : Type 0 where
 -- the canonical text of a plan keeps the byte and token limits
 pub record Keeps (hs : List Header) (p : Plan) : Type 0 where
   pub bytes : length (canonical hs p) ≤ maxText
-  pub tokens : length (document hs p) ≤ maxTokens
+  pub tokens : length (documentPieces hs p) ≤ maxTokens
 
 -- a call of canon on a document: the lengths of the two work areas, and the output as it was before
 pub record Lent : Type 0 where
   pub work₁ : ℕ
   pub work₂ : ℕ
   pub out : List ℕ
+
+abbrev pub roomOf : Lent → CanonRoom
+roomOf l = record { work₁ = l .work₁; work₂ = l .work₂; out = length (l .out) }
 
 -- the room that canon asks, and an output that holds these bytes
 pub record Serves (l : Lent) (bytes : List ℕ) : Type 0 where
@@ -37,10 +40,10 @@ pub record Serves (l : Lent) (bytes : List ℕ) : Type 0 where
 
 -- the four numbers, the output afterwards, and its first bytes, as many as the count says
 unfoldable pub numbers : List ℕ → List ℕ → Lent → Answer
-numbers list doc l = canonAnswer list doc (l .work₁) (l .work₂) (length (l .out))
+numbers list doc l = canonAnswer list doc (roomOf l)
 
 unfoldable pub output : List ℕ → List ℕ → Lent → List ℕ
-output list doc l = outputAfter (written list doc (l .work₁) (l .work₂) (length (l .out))) (l .out)
+output list doc l = outputAfter (written list doc (roomOf l)) (l .out)
 
 unfoldable pub bytesWritten : List ℕ → List ℕ → Lent → List ℕ
 bytesWritten list doc l = take (numbers list doc l .detail) (output list doc l)

@@ -9,7 +9,7 @@ use Rattle.lexis.specs.Words.{sameBytes}
 use Rattle.syntax.specs.Tree.{Param, Header}
 use Rattle.rules.specs.Reading.{Val, Vals, vName, vNumber, vExtent, vString, vLogical, vArray, vTuple, no-val, a-val}
 use Rattle.canonical.specs.Plan.{PlanCall, Plan}
-use Rattle.canonical.specs.Spelling.{digits, spellNumber, spellString, spellTruth}
+use Rattle.canonical.specs.Spelling.{decimal, spellNumber, spellString, spellTruth}
 use Rattle.canonical.specs.Pieces.{Piece, text}
 
 -- ---- one piece: without white space after it, before a space, before a line feed
@@ -23,8 +23,8 @@ spaced k w = record { kind = k; bytes = w; space = 32 ∷ [] }
 abbrev pub lined : ℕ → List ℕ → Piece
 lined k w = record { kind = k; bytes = w; space = 10 ∷ [] }
 
-abbrev pub aName : List ℕ → Piece
-aName w = piece Kind.name w
+abbrev pub namePiece : List ℕ → Piece
+namePiece w = piece Kind.name w
 
 -- a syntactic character
 abbrev pub mark : List ℕ → Piece
@@ -35,9 +35,9 @@ mark w = piece Kind.syntactic w
 -- a leaf by its spelling; the items of an array and of a tuple parted by one comma
 unfoldable mutual
   pub pieces : Val → List Piece → List Piece
-  pieces (vName w) r = aName w ∷ r
+  pieces (vName w) r = namePiece w ∷ r
   pieces (vNumber n) r = piece Kind.real (spellNumber n) ∷ r
-  pieces (vExtent n) r = piece Kind.whole (digits n) ∷ r
+  pieces (vExtent n) r = piece Kind.whole (decimal n) ∷ r
   pieces (vString s) r = piece Kind.string (spellString s) ∷ r
   pieces (vLogical b) r = piece Kind.truth (spellTruth b) ∷ r
   pieces (vArray vs) r = mark (ascii "[") ∷ items vs (mark (ascii "]") ∷ r)
@@ -65,30 +65,30 @@ leftPieces (vArray vs) r = pieces (vArray vs) r
 -- ---- names
 
 -- the names after the first, each after its comma; all names
-unfoldable pub moreNames : List (List ℕ) → List Piece → List Piece
-moreNames [] r = r
-moreNames (w ∷ ws) r = mark (ascii ",") ∷ aName w ∷ moreNames ws r
+unfoldable pub moreNamesPieces : List (List ℕ) → List Piece → List Piece
+moreNamesPieces [] r = r
+moreNamesPieces (w ∷ ws) r = mark (ascii ",") ∷ namePiece w ∷ moreNamesPieces ws r
 
-unfoldable pub names : List (List ℕ) → List Piece → List Piece
-names [] r = r
-names (w ∷ ws) r = aName w ∷ moreNames ws r
+unfoldable pub namesPieces : List (List ℕ) → List Piece → List Piece
+namesPieces [] r = r
+namesPieces (w ∷ ws) r = namePiece w ∷ moreNamesPieces ws r
 
 -- ---- calls
 
 -- an argument, with its parameter's name
-abbrev pub argument : Param → Val → List Piece → List Piece
-argument p v r = aName (p .name .bytes) ∷ mark (ascii "=") ∷ pieces v r
+abbrev pub argumentPieces : Param → Val → List Piece → List Piece
+argumentPieces p v r = namePiece (p .name .bytes) ∷ mark (ascii "=") ∷ pieces v r
 
 -- the arguments after the first, each after its comma; all arguments, one for each parameter in declared order
-unfoldable pub moreArguments : List Param → List Val → List Piece → List Piece
-moreArguments [] vs r = r
-moreArguments (p ∷ ps) [] r = r
-moreArguments (p ∷ ps) (v ∷ vs) r = mark (ascii ",") ∷ argument p v (moreArguments ps vs r)
+unfoldable pub moreArgumentsPieces : List Param → List Val → List Piece → List Piece
+moreArgumentsPieces [] vs r = r
+moreArgumentsPieces (p ∷ ps) [] r = r
+moreArgumentsPieces (p ∷ ps) (v ∷ vs) r = mark (ascii ",") ∷ argumentPieces p v (moreArgumentsPieces ps vs r)
 
-unfoldable pub arguments : List Param → List Val → List Piece → List Piece
-arguments [] vs r = r
-arguments (p ∷ ps) [] r = r
-arguments (p ∷ ps) (v ∷ vs) r = argument p v (moreArguments ps vs r)
+unfoldable pub argumentsPieces : List Param → List Val → List Piece → List Piece
+argumentsPieces [] vs r = r
+argumentsPieces (p ∷ ps) [] r = r
+argumentsPieces (p ∷ ps) (v ∷ vs) r = argumentPieces p v (moreArgumentsPieces ps vs r)
 
 -- the parameters of the operation of a name
 unfoldable pub paramsOf : List Header → List ℕ → List Param
@@ -100,9 +100,9 @@ unfoldable pub callPieces : List Header → PlanCall → List Piece → List Pie
 callPieces hs c r =
     leftPieces (c .left)
     (mark (ascii "=")
-    ∷ aName (c .op)
+    ∷ namePiece (c .op)
     ∷ mark (ascii "(")
-    ∷ arguments (paramsOf hs (c .op)) (c .values)
+    ∷ argumentsPieces (paramsOf hs (c .op)) (c .values)
     (mark (ascii ")")
     ∷ lined Kind.syntactic (ascii ";")
     ∷ r))
@@ -114,18 +114,18 @@ callsPieces hs (c ∷ cs) r = callPieces hs c (callsPieces hs cs r)
 -- ---- the whole
 
 -- version 1.0, the graph's header, and the calls in braces, each on a line of its own
-unfoldable pub document : List Header → Plan → List Piece
-document hs p =
+unfoldable pub documentPieces : List Header → Plan → List Piece
+documentPieces hs p =
     spaced Kind.keyword (ascii "version")
     ∷ lined Kind.real (ascii "1.0")
     ∷ spaced Kind.keyword (ascii "graph")
-    ∷ aName (p .graph)
+    ∷ namePiece (p .graph)
     ∷ mark (ascii "(")
-    ∷ names (p .inputs)
+    ∷ namesPieces (p .inputs)
     (mark (ascii ")")
     ∷ mark (ascii "->")
     ∷ mark (ascii "(")
-    ∷ names (p .outputs)
+    ∷ namesPieces (p .outputs)
     (lined Kind.syntactic (ascii ")")
     ∷ lined Kind.syntactic (ascii "{")
     ∷ callsPieces hs (p .calls)
@@ -134,4 +134,4 @@ document hs p =
 
 -- the canonical text of a plan
 unfoldable pub canonical : List Header → Plan → List ℕ
-canonical hs p = text (document hs p)
+canonical hs p = text (documentPieces hs p)

@@ -3,6 +3,7 @@ pub mod Plan
 pub mod Spelling
 pub mod Pieces
 pub mod Layout
+pub mod Code
 pub mod Answer
 pub mod Demand
 pub mod Program

@@ -3,11 +3,11 @@ use mathlib.Core.List.{List, [], _∷_, _++_}
 use Prim.Native.Nat.{ℕ}
 use Rattle.lexis.specs.declared.Answer.{Answer}
 use Rattle.rules.specs.Answer.{Stage, pass, stop}
-use Rattle.canonical.specs.Spelling.{digits}
+use Rattle.canonical.specs.Spelling.{decimal}
 
 -- four numbers in decimal with one space between, and a line feed
 unfoldable pub printed : Answer → List ℕ
-printed r = digits (r .code) ++ (32 ∷ digits (r .text) ++ (32 ∷ digits (r .position) ++ (32 ∷ digits (r .detail) ++ (10 ∷ []))))
+printed r = decimal (r .code) ++ (32 ∷ decimal (r .text) ++ (32 ∷ decimal (r .position) ++ (32 ∷ decimal (r .detail) ++ (10 ∷ []))))
 
 abbrev pub shown : Stage (List ℕ) → List ℕ
 shown (pass bytes) = bytes

@@ -8,22 +8,22 @@ use Rattle.lexis.specs.Ascii.{ascii, byte}
 use Rattle.lexis.specs.Number.{Reduced}
 
 -- the decimal digits of n, the most significant first, at most `fuel` + 1 of them
-unfoldable pub digitsBy : ℕ → ℕ → List ℕ
-digitsBy zero n = (byte "0" + n) ∷ []
-digitsBy (suc fuel) n = let r = digitsBy fuel (n / 10) in cond (ltb n 10) ((byte "0" + n) ∷ []) (r ++ ((byte "0" + n % 10) ∷ []))
+unfoldable pub decimalBy : ℕ → ℕ → List ℕ
+decimalBy zero n = (byte "0" + n) ∷ []
+decimalBy (suc fuel) n = let r = decimalBy fuel (n / 10) in cond (ltb n 10) ((byte "0" + n) ∷ []) (r ++ ((byte "0" + n % 10) ∷ []))
 
 -- the plain digits of n without leading zeros; zero is `0`
-unfoldable pub digits : ℕ → List ℕ
-digits n = digitsBy n n
+unfoldable pub decimal : ℕ → List ℕ
+decimal n = decimalBy n n
 
 -- an exponent: its digits, a minus before them where it is negative (`negsuc n` is the number -1 - n)
 unfoldable pub spellExponent : ℤ → List ℕ
-spellExponent (pos n) = digits n
-spellExponent (negsuc n) = byte "-" ∷ digits (suc n)
+spellExponent (pos n) = decimal n
+spellExponent (negsuc n) = byte "-" ∷ decimal (suc n)
 
 -- a reduced number: mantissa, `e`, exponent
 unfoldable pub spellNumber : Reduced → List ℕ
-spellNumber r = digits (r .mantissa) ++ (byte "e" ∷ spellExponent (r .exponent))
+spellNumber r = decimal (r .mantissa) ++ (byte "e" ∷ spellExponent (r .exponent))
 
 -- a string: in single quotes, or in double ones when its content holds a single one
 unfoldable pub holdsSingle : List ℕ → Bool

@@ -26,16 +26,16 @@ use Rattle.syntax.specs.Inner.{lookahead}
 use Rattle.syntax.specs.Table.{kindAt, tokenAt, toks}
 use Rattle.rules.specs.Reading.{Val, Vals, isNumber, nameAt, literalAt, readAt, readAll, readEach}
 use Rattle.lexis.specs.declared.Answer.{Answer}
-use Rattle.rules.specs.Answer.{Stage, andThen, counted, listStages, documentStages}
-use Rattle.canonical.specs.Answer.{layoutOf, writingStages, outputAfter}
+use Rattle.rules.specs.Answer.{Stage, stageAnswer}
+use Rattle.canonical.specs.Answer.{outputAfter}
 use Rattle.rules.specs.Fitting.{stacked, IsBase, Columns, InArray}
 use Rattle.canonical.specs.declared.place.Place.{Place}
 use Rattle.canonical.specs.declared.value.Put.{Put}
 use Rattle.canonical.specs.declared.argument.Bound.{Bound}
 use Rattle.canonical.specs.declared.argument.Bound.the-variants.{At, Missing}
-use Rattle.canonical.specs.Spelling.{digits}
+use Rattle.canonical.specs.Spelling.{decimal}
 use Rattle.canonical.specs.Pieces.{Piece, text}
-use Rattle.canonical.specs.Layout.{mark, piece, aName, pieces, items}
+use Rattle.canonical.specs.Layout.{mark, piece, namePiece, pieces, items}
 
 -- ---- bytes and tokens
 
@@ -64,22 +64,22 @@ tallied n [] = n
 tallied n (p ∷ ps) = tallied (nextToken n) ps
 
 -- where pieces end that begin at a place
-unfoldable pub onward : Place → List Piece → Place
-onward s ps = record { bytes = passed (s .bytes) (text ps); tokens = tallied (s .tokens) ps }
+unfoldable pub placeAfter : Place → List Piece → Place
+placeAfter s ps = record { bytes = passed (s .bytes) (text ps); tokens = tallied (s .tokens) ps }
 
 -- The pieces of a part were put into the output, from one place to another: whatever follows them goes on from there.
 pub record Puts (part : List Piece → List Piece) (out out' : List ℕ) (s s' : Place) : Type 0 where
   pub bytes : (r : List Piece) → stored out (s .bytes) (text (part r)) ≡ stored out' (s' .bytes) (text r)
-  pub place : (r : List Piece) → onward s (part r) ≡ onward s' r
+  pub place : (r : List Piece) → placeAfter s (part r) ≡ placeAfter s' r
 
 -- one piece of these bytes, whatever its kind
 abbrev pub PutsWord : List ℕ → List ℕ → List ℕ → Place → Place → Type 0
 PutsWord w out out' s s' = (k : ℕ) → Puts (λ r. piece k w ∷ r) out out' s s'
 
 -- all of these pieces were put from the first byte on
-pub record Written (ps : List Piece) (out out' : List ℕ) (s : Place) : Type 0 where
+pub record PutsAll (ps : List Piece) (out out' : List ℕ) (s : Place) : Type 0 where
   pub bytes : out' ≡ stored out 0 (text ps)
-  pub place : s ≡ onward (record { bytes = 0; tokens = 0 }) ps
+  pub place : s ≡ placeAfter (record { bytes = 0; tokens = 0 }) ps
 
 -- ---- values
 
@@ -114,7 +114,7 @@ PutsTuple text table n i ts out out' s r =
 
 -- the tokens of a left side: a bracket or a comma by its one byte, a name by its spelling
 unfoldable pub patternPiece : Token → Piece
-patternPiece t = cond (among (ascii ",[]()") (symOf t)) (mark (symOf t ∷ [])) (aName (t .bytes))
+patternPiece t = cond (among (ascii ",[]()") (symOf t)) (mark (symOf t ∷ [])) (namePiece (t .bytes))
 
 unfoldable pub patternPieces : List Token → List Piece → List Piece
 patternPieces [] r = r
@@ -144,17 +144,13 @@ pub data Finds (text table : List ℕ) (n : ℕ) : Option Value → Bound → Ty
 
 -- ---- canon
 
--- the stages of canon after its guards
-unfoldable pub textStages : List ℕ → List ℕ → ℕ → Stage (List ℕ)
-textStages list doc out = andThen (listStages list) (λ hs. andThen (documentStages hs doc) (λ d. writingStages (layoutOf hs d) out))
-
 -- the answer and the output after these stages
 pub record Wrote (s : Stage (List ℕ)) (out out' : List ℕ) (r : Answer) : Type 0 where
-  pub answered : r ≡ counted s length
+  pub answered : r ≡ stageAnswer s length
   pub output : out' ≡ outputAfter s out
 
 -- ---- the program
 
 -- a number in decimal and one byte after it
 abbrev pub numberThen : ℕ → ℕ → List ℕ
-numberThen n b = digits n ++ (b ∷ [])
+numberThen n b = decimal n ++ (b ∷ [])

@@ -28,8 +28,8 @@ ghost use Rattle.syntax.specs.Table.{toks, Holds};
 ghost use Rattle.rules.specs.Binding.{misplaced, slots};
 ghost use Rattle.rules.specs.Reading.{Val, readAt};
 ghost use Rattle.canonical.specs.Plan.{valueFor, valuesFor};
-ghost use Rattle.canonical.specs.Layout.{pieces, arguments};
-ghost use Rattle.canonical.specs.Layout.{argument as putArgument};
+ghost use Rattle.canonical.specs.Layout.{pieces, argumentsPieces};
+ghost use Rattle.canonical.specs.Layout.{argumentPieces};
 ghost use Rattle.canonical.specs.Writing.{Puts, Ranged, argumentFor, Finds};
 
 // The place of the value that is bound to a parameter, or none.
@@ -142,7 +142,7 @@ fn put_argument(
     requires { ⌜ p < ln ⌝ }
     ensures { λ r. ⌜ ((xs : List Arg) (us : List Token) (q : Param) (ws : List Token) (w : Val) → row plain (commas rightRound) (argument maxBrackets) (toks (now (dtext .entry)) (now (dtable .entry)) dn args) ≡ ok xs us →
         param maxBrackets (toks (now (ltext .entry)) (now (ltable .entry)) ln p) ≡ ok q ws → valueFor (record { param = q; value = argumentFor 0 k q xs }) ≡ some w →
-        Puts (putArgument q w) (now (out .entry)) (now (out .exit)) s r) ⌝ }
+        Puts (argumentPieces q w) (now (out .entry)) (now (out .exit)) s r) ⌝ }
 {
     let name = put_token(&mut *out, s, ltext, ltable, ln, p);
     let equal = put_word(&mut *out, name, b"=");
@@ -175,7 +175,7 @@ pub fn put_arguments(
     requires { ⌜ Ranged (now ltext) (now ltable) ln ⌝ }
     ensures { λ r. ⌜ ((xs : List Arg) (us : List Token) (ps : List Param) (ws : List Token) (vs : List Val) → row plain (commas rightRound) (argument maxBrackets) (toks (now (dtext .entry)) (now (dtable .entry)) dn args) ≡ ok xs us →
         row plain (commas rightRound) (param maxBrackets) (toks (now (ltext .entry)) (now (ltable .entry)) ln params) ≡ ok ps ws → misplaced ps xs ≡ [] → valuesFor (slots ps xs) ≡ some vs →
-        Puts (arguments ps vs) (now (out .entry)) (now (out .exit)) s r) ⌝ }
+        Puts (argumentsPieces ps vs) (now (out .entry)) (now (out .exit)) s r) ⌝ }
 {
     let mut place = s;
     let mut p = params;

@@ -22,10 +22,10 @@ ghost use Rattle.syntax.specs.Parser.{call};
 ghost use Rattle.syntax.specs.Parser.Parse.{ok};
 ghost use Rattle.syntax.specs.Table.{tokenAt, toks, Holds};
 ghost use Rattle.rules.specs.DocumentRules.{argumentFaults};
-ghost use Rattle.rules.specs.Lists.{Heads, Places as NamePlaces};
+ghost use Rattle.rules.specs.Lists.{Heads, NamePlaces};
 ghost use Rattle.rules.specs.Calls.{Calls, CallAt};
 ghost use Rattle.canonical.specs.Plan.{PlanCall, planCall, planCalls};
-ghost use Rattle.canonical.specs.Layout.{aName, mark, callPieces, callsPieces};
+ghost use Rattle.canonical.specs.Layout.{namePiece, mark, callPieces, callsPieces};
 ghost use Rattle.canonical.specs.Writing.{Puts, Ranged};
 
 // Puts an equals sign, the name at place `name` and an opening bracket.
@@ -39,7 +39,7 @@ fn put_operation(
 ) -> Place
     requires { ⌜ Holds (now text) (now table) n ⌝ }
     requires { ⌜ name < n ⌝ }
-    ensures { λ r. ⌜ Puts (λ q. mark (ascii "=") ∷ aName (tokenAt (now (text .entry)) (now (table .entry)) name .bytes) ∷ mark (ascii "(") ∷ q) (now (out .entry)) (now (out .exit)) s r ⌝ }
+    ensures { λ r. ⌜ Puts (λ q. mark (ascii "=") ∷ namePiece (tokenAt (now (text .entry)) (now (table .entry)) name .bytes) ∷ mark (ascii "(") ∷ q) (now (out .entry)) (now (out .exit)) s r ⌝ }
 {
     let equal = put_word(&mut *out, s, b"=");
     let named = put_token(&mut *out, equal, text, table, n, name);

@@ -13,21 +13,21 @@ ghost use Rattle.lexis.specs.Ascii.{ascii};
 ghost use Rattle.lexis.specs.Kind as Kind;
 ghost use Rattle.lexis.specs.Lexer.{Token};
 ghost use Rattle.lexis.specs.Sizes.{maxBrackets};
-ghost use Rattle.syntax.specs.Symbol.{aName as nameSymbol, rightRound};
+ghost use Rattle.syntax.specs.Symbol.{namePiece as nameSymbol, rightRound};
 ghost use Rattle.syntax.specs.Tree.{Header, Document};
 ghost use Rattle.syntax.specs.Parser.{expect, row, plain, commas, parseDocument};
 ghost use Rattle.syntax.specs.Parser.Parse.{ok};
 ghost use Rattle.syntax.specs.Table.{tokenAt, toks, Holds};
 ghost use Rattle.rules.specs.DocumentRules.{documentFaults};
-ghost use Rattle.rules.specs.Lists.{Heads, Places as NamePlaces};
+ghost use Rattle.rules.specs.Lists.{Heads, NamePlaces};
 ghost use Rattle.canonical.specs.Plan.{Plan, planOf, spellings};
-ghost use Rattle.canonical.specs.Layout.{spaced, lined, aName, mark, names, document};
-ghost use Rattle.canonical.specs.Writing.{Puts, Ranged, Written};
+ghost use Rattle.canonical.specs.Layout.{spaced, lined, namePiece, mark, namesPieces, documentPieces};
+ghost use Rattle.canonical.specs.Writing.{Puts, Ranged, PutsAll};
 
 // Puts the version, the word `graph`, the graph's name and an opening bracket.
 fn put_title(out: &mut [u8], s: Place, text: &[u8], table: &[u32], n: usize) -> Place
     requires { ⌜ Holds (now text) (now table) n ⌝ }
-    ensures { λ r. ⌜ ((d : Document) → parseDocument (toks (now (text .entry)) (now (table .entry)) n 0) ≡ ok d [] → Puts (λ q. spaced Kind.keyword (ascii "version") ∷ lined Kind.real (ascii "1.0") ∷ spaced Kind.keyword (ascii "graph") ∷ aName (d .graph .bytes) ∷ mark (ascii "(") ∷ q) (now (out .entry)) (now (out .exit)) s r) ⌝ }
+    ensures { λ r. ⌜ ((d : Document) → parseDocument (toks (now (text .entry)) (now (table .entry)) n 0) ≡ ok d [] → Puts (λ q. spaced Kind.keyword (ascii "version") ∷ lined Kind.real (ascii "1.0") ∷ spaced Kind.keyword (ascii "graph") ∷ namePiece (d .graph .bytes) ∷ mark (ascii "(") ∷ q) (now (out .entry)) (now (out .exit)) s r) ⌝ }
 {
     if n <= 3 {
         return s;
@@ -60,9 +60,9 @@ fn put_header(
     requires { ⌜ Holds (now text) (now table) n ⌝ }
     ensures { λ r. ⌜ ((d : Document) (us : List Token) → parseDocument (toks (now (text .entry)) (now (table .entry)) n 0) ≡ ok d [] →
         row plain (commas rightRound) (expect nameSymbol) (toks (now (text .entry)) (now (table .entry)) n outputs) ≡ ok (d .outputs) us → Puts (λ q.
-        spaced Kind.keyword (ascii "version") ∷ lined Kind.real (ascii "1.0") ∷ spaced Kind.keyword (ascii "graph") ∷ aName (d .graph .bytes) ∷ mark (ascii "(")
-        ∷ names (spellings (d .inputs)) (mark (ascii ")") ∷ mark (ascii "->") ∷ mark (ascii "(")
-        ∷ names (spellings (d .outputs)) (lined Kind.syntactic (ascii ")") ∷ lined Kind.syntactic (ascii "{") ∷ q))) (now (out .entry)) (now (out .exit)) s r) ⌝ }
+        spaced Kind.keyword (ascii "version") ∷ lined Kind.real (ascii "1.0") ∷ spaced Kind.keyword (ascii "graph") ∷ namePiece (d .graph .bytes) ∷ mark (ascii "(")
+        ∷ namesPieces (spellings (d .inputs)) (mark (ascii ")") ∷ mark (ascii "->") ∷ mark (ascii "(")
+        ∷ namesPieces (spellings (d .outputs)) (lined Kind.syntactic (ascii ")") ∷ lined Kind.syntactic (ascii "{") ∷ q))) (now (out .entry)) (now (out .exit)) s r) ⌝ }
 {
     let title = put_title(&mut *out, s, text, table, n);
     let ins = put_names(&mut *out, title, text, table, n, 5);
@@ -85,11 +85,11 @@ pub fn put_document(
 ) -> Place
     requires { ⌜ Holds (now ltext) (now ltable) ln ⌝ }
     requires { ⌜ Ranged (now ltext) (now ltable) ln ⌝ }
-    requires { ⌜ NamePlaces ln (now names) ⌝ }
+    requires { ⌜ NamePlaces ln (now namesPieces) ⌝ }
     requires { ⌜ Holds (now dtext) (now dtable) dn ⌝ }
     requires { ⌜ Ranged (now dtext) (now dtable) dn ⌝ }
-    ensures { λ r. ⌜ ((hs : List Header) (d : Document) (p : Plan) → Heads (now (ltext .entry)) (now (ltable .entry)) ln maxBrackets (now (names .entry)) hs → parseDocument (toks (now (dtext .entry)) (now (dtable .entry)) dn 0) ≡ ok d [] →
-        documentFaults hs d ≡ [] → planOf hs d ≡ some p → Written (document hs p) (now (out .entry)) (now (out .exit)) r) ⌝ }
+    ensures { λ r. ⌜ ((hs : List Header) (d : Document) (p : Plan) → Heads (now (ltext .entry)) (now (ltable .entry)) ln maxBrackets (now (namesPieces .entry)) hs → parseDocument (toks (now (dtext .entry)) (now (dtable .entry)) dn 0) ≡ ok d [] →
+        documentFaults hs d ≡ [] → planOf hs d ≡ some p → PutsAll (documentPieces hs p) (now (out .entry)) (now (out .exit)) r) ⌝ }
 {
     let graph = graph_at(dtext, dtable, dn);
     let start = Place {

@@ -1,6 +1,7 @@
 // The canonical text of documents, and the operation that writes it.
 pub mod argument;
 pub mod call;
+mod code;
 pub mod document;
 pub mod pattern;
 pub mod place;
@@ -9,9 +10,9 @@ pub mod spelling;
 pub mod value;
 pub mod writer;
 
+use code::Code;
 use document::put_document;
 use lexis::Answer;
-use lexis::code::Code;
 use lexis::limits::Limits;
 use place::Place;
 use rules::check::long_text;
@@ -27,8 +28,8 @@ ghost use Rattle.lexis.specs.Answer.{answer};
 ghost use Rattle.lexis.specs.Sizes.{maxText, maxTokens, workWords};
 ghost use Rattle.rules.specs.Answer.{workAfter};
 ghost use Rattle.rules.specs.Stages.{BothPassed};
-ghost use Rattle.canonical.specs.Answer.{written, canonAnswer, outputAfter};
-ghost use Rattle.canonical.specs.Writing.{textStages, Wrote};
+ghost use Rattle.canonical.specs.Answer.{textStages, canonRoom, written, canonAnswer, outputAfter};
+ghost use Rattle.canonical.specs.Writing.{Wrote};
 
 // Whether both work areas have the room that is asked.
 fn rooms_serve(work1: usize, work2: usize) -> bool
@@ -47,7 +48,7 @@ fn keeps_limits(size: Place) -> bool
     if !Limits::text_fits(size.bytes) {
         return false;
     }
-    size.tokens <= Limits::TOKENS
+    Limits::tokens_fit(size.tokens)
 }
 
 // An answer that names no text.
@@ -77,14 +78,14 @@ fn write(
     requires { ⌜ workWords ≤ length (now work1) ⌝ }
     ensures { λ r. ⌜ Wrote (textStages (now (list .entry)) (now (doc .entry)) (length (now (out .entry)))) (now (out .entry)) (now (out .exit)) r ⌝ }
 {
-    let names = &work1[Limits::TABLE_WORDS..Limits::TABLE_WORDS + k];
+    let names = &work1[Limits::SCRATCH_START..Limits::SCRATCH_START + k];
     let size = put_document(&mut out[0..0], list, work1, n, names, doc, work2, m);
     if !keeps_limits(size) {
-        return no_text(25, 0);
+        return no_text(Code::OVER_LIMITS, 0);
     }
     let detail = size.bytes as u32;
     if out.len() < size.bytes {
-        return no_text(26, detail);
+        return no_text(Code::SHORT_OUTPUT, detail);
     }
     put_document(out, list, work1, n, names, doc, work2, m);
     no_text(0, detail)
@@ -119,13 +120,13 @@ pub fn canon(
     work2: &mut [u32],
     out: &mut [u8],
 ) -> Answer
-    ensures { λ r. ⌜ r ≡ canonAnswer (now (list .entry)) (now (doc .entry)) (length (now (work1 .entry))) (length (now (work2 .entry))) (length (now (out .entry))) ⌝ }
-    ensures { λ _. ⌜ now (out .exit) ≡ outputAfter (written (now (list .entry)) (now (doc .entry)) (length (now (work1 .entry))) (length (now (work2 .entry))) (length (now (out .entry)))) (now (out .entry)) ⌝ }
+    ensures { λ r. ⌜ r ≡ canonAnswer (now (list .entry)) (now (doc .entry)) (canonRoom (now (work1 .entry)) (now (work2 .entry)) (now (out .entry))) ⌝ }
+    ensures { λ _. ⌜ now (out .exit) ≡ outputAfter (written (now (list .entry)) (now (doc .entry)) (canonRoom (now (work1 .entry)) (now (work2 .entry)) (now (out .entry)))) (now (out .entry)) ⌝ }
     ensures { λ r. ⌜ now (work1 .exit) ≡ workAfter r (now (work1 .entry)) ⌝ }
     ensures { λ r. ⌜ now (work2 .exit) ≡ workAfter r (now (work2 .entry)) ⌝ }
 {
     if !rooms_serve(work1.len(), work2.len()) {
-        return no_text(Code::SHORT_TABLE, 0);
+        return no_text(lexis::code::Code::SHORT_TABLE, 0);
     }
     if !Limits::text_fits(list.len()) {
         return long_text(1);

@@ -21,13 +21,13 @@ ghost use Rattle.syntax.specs.Parser.Parse.{ok};
 ghost use Rattle.syntax.specs.Table.{tokenAt, toks, Holds};
 ghost use Rattle.rules.specs.Reading.{Val, readAt};
 ghost use Rattle.canonical.specs.Plan.{spellings};
-ghost use Rattle.canonical.specs.Layout.{names, leftPieces};
+ghost use Rattle.canonical.specs.Layout.{namesPieces, leftPieces};
 ghost use Rattle.canonical.specs.Writing.{Puts, patternPiece, patternPieces, isBracketed};
 
 // Puts the names in a row at place `at`, up to its closing bracket.
 pub fn put_names(out: &mut [u8], s: Place, text: &[u8], table: &[u32], n: usize, at: usize) -> Place
     requires { ⌜ Holds (now text) (now table) n ⌝ }
-    ensures { λ r. ⌜ ((ts : List Token) (us : List Token) → row plain (commas rightRound) (expect aName) (toks (now (text .entry)) (now (table .entry)) n at) ≡ ok ts us → Puts (names (spellings ts)) (now (out .entry)) (now (out .exit)) s r) ⌝ }
+    ensures { λ r. ⌜ ((ts : List Token) (us : List Token) → row plain (commas rightRound) (expect aName) (toks (now (text .entry)) (now (table .entry)) n at) ≡ ok ts us → Puts (namesPieces (spellings ts)) (now (out .entry)) (now (out .exit)) s r) ⌝ }
 {
     let mut place = s;
     let mut i = at;

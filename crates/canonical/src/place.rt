@@ -86,7 +86,7 @@ pub fn put_token(out: &mut [u8], s: Place, text: &[u8], table: &[u32], n: usize,
     requires { ⌜ i < n ⌝ }
     ensures { λ r. ⌜ PutsWord (tokenAt (now (text .entry)) (now (table .entry)) i .bytes) (now (out .entry)) (now (out .exit)) s r ⌝ }
 {
-    let start = word(table, i * Limits::TOKEN_WORDS + 1);
-    let end = word(table, i * Limits::TOKEN_WORDS + 2);
+    let start = word(table, i * Limits::RECORD_WORDS + 1);
+    let end = word(table, i * Limits::RECORD_WORDS + 2);
     put_word(out, s, &text[start..end])
 }

@@ -6,7 +6,7 @@ use lexis::Answer;
 ghost use mathlib.Core.Path.{_≡_};
 ghost use lib.ListN.{length};
 ghost use Rattle.rules.specs.Answer.{workAfter};
-ghost use Rattle.canonical.specs.Answer.{written, canonAnswer};
+ghost use Rattle.canonical.specs.Answer.{canonRoom, written, canonAnswer};
 ghost use Rattle.canonical.specs.Program.{printed, shown};
 ghost use Rattle.canonical.specs.Writing.{passed, stored, numberThen};
 
@@ -32,10 +32,10 @@ fn put_numbers(out: &mut [u8], a: Answer) -> usize
 
 // Puts into the output what the program writes, and gives how many bytes that is.
 pub fn show(list: &[u8], doc: &[u8], work1: &mut [u32], work2: &mut [u32], out: &mut [u8]) -> usize
-    ensures { λ r. ⌜ r ≡ passed 0 (shown (written (now (list .entry)) (now (doc .entry)) (length (now (work1 .entry))) (length (now (work2 .entry))) (length (now (out .entry))))) ⌝ }
-    ensures { λ _. ⌜ now (out .exit) ≡ stored (now (out .entry)) 0 (shown (written (now (list .entry)) (now (doc .entry)) (length (now (work1 .entry))) (length (now (work2 .entry))) (length (now (out .entry))))) ⌝ }
-    ensures { λ _. ⌜ now (work1 .exit) ≡ workAfter (canonAnswer (now (list .entry)) (now (doc .entry)) (length (now (work1 .entry))) (length (now (work2 .entry))) (length (now (out .entry)))) (now (work1 .entry)) ⌝ }
-    ensures { λ _. ⌜ now (work2 .exit) ≡ workAfter (canonAnswer (now (list .entry)) (now (doc .entry)) (length (now (work1 .entry))) (length (now (work2 .entry))) (length (now (out .entry)))) (now (work2 .entry)) ⌝ }
+    ensures { λ r. ⌜ r ≡ passed 0 (shown (written (now (list .entry)) (now (doc .entry)) (canonRoom (now (work1 .entry)) (now (work2 .entry)) (now (out .entry))))) ⌝ }
+    ensures { λ _. ⌜ now (out .exit) ≡ stored (now (out .entry)) 0 (shown (written (now (list .entry)) (now (doc .entry)) (canonRoom (now (work1 .entry)) (now (work2 .entry)) (now (out .entry))))) ⌝ }
+    ensures { λ _. ⌜ now (work1 .exit) ≡ workAfter (canonAnswer (now (list .entry)) (now (doc .entry)) (canonRoom (now (work1 .entry)) (now (work2 .entry)) (now (out .entry)))) (now (work1 .entry)) ⌝ }
+    ensures { λ _. ⌜ now (work2 .exit) ≡ workAfter (canonAnswer (now (list .entry)) (now (doc .entry)) (canonRoom (now (work1 .entry)) (now (work2 .entry)) (now (out .entry)))) (now (work2 .entry)) ⌝ }
 {
     let a = canon(list, doc, work1, work2, &mut *out);
     if a.code == 0 {

@@ -18,13 +18,13 @@ ghost use Rattle.lexis.specs.Bytes.{classTable};
 ghost use Rattle.lexis.specs.Sizes.{maxNumber, maxExtent};
 ghost use Rattle.lexis.specs.Number.{Reduced, valueFrom, partsOf, reducedOf, isNear, inRange};
 ghost use Rattle.rules.specs.Reading.{contentOf};
-ghost use Rattle.canonical.specs.Spelling.{digits, spellExponent, spellNumber, quoteFor, spellString, spellTruth};
+ghost use Rattle.canonical.specs.Spelling.{decimal, spellExponent, spellNumber, quoteFor, spellString, spellTruth};
 ghost use Rattle.canonical.specs.Writing.{passed, stored, PutsWord};
 
 // The bytes of the digits of n, from a position on.
 pub fn put_digits(out: &mut [u8], at: usize, n: u64) -> usize
-    ensures { λ r. ⌜ r ≡ passed at (digits n) ⌝ }
-    ensures { λ _. ⌜ now (out .exit) ≡ stored (now (out .entry)) at (digits n) ⌝ }
+    ensures { λ r. ⌜ r ≡ passed at (decimal n) ⌝ }
+    ensures { λ _. ⌜ now (out .exit) ≡ stored (now (out .entry)) at (decimal n) ⌝ }
 {
     if n < 10 {
         return put_byte(out, at, b'0' + n as u8);
@@ -89,7 +89,7 @@ fn extent_of(w: &[u8]) -> u64
 
 // Puts a whole number at extent: plain digits without leading zeros.
 pub fn put_extent(out: &mut [u8], s: Place, word: &[u8]) -> Place
-    ensures { λ r. ⌜ (valueFrom 0 (now (word .entry)) ≤ maxExtent → PutsWord (digits (valueFrom 0 (now (word .entry)))) (now (out .entry)) (now (out .exit)) s r) ⌝ }
+    ensures { λ r. ⌜ (valueFrom 0 (now (word .entry)) ≤ maxExtent → PutsWord (decimal (valueFrom 0 (now (word .entry)))) (now (out .entry)) (now (out .exit)) s r) ⌝ }
 {
     Place {
         bytes: put_digits(out, s.bytes, extent_of(word)),

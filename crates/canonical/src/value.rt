@@ -82,12 +82,12 @@ fn put_leaf(
     requires { ⌜ i < n ⌝ }
     ensures { λ r. ⌜ ((u : Ty) (w : Val) → IsTypeName at u → leafAt u (tokenAt (now (text .entry)) (now (table .entry)) i) ≡ some w → Puts (pieces w) (now (out .entry)) (now (out .exit)) s r) ⌝ }
 {
-    let start = word(table, i * Limits::TOKEN_WORDS + 1);
-    let end = word(table, i * Limits::TOKEN_WORDS + 2);
+    let start = word(table, i * Limits::RECORD_WORDS + 1);
+    let end = word(table, i * Limits::RECORD_WORDS + 2);
     put_spelt(
         out,
         s,
-        table[i * Limits::TOKEN_WORDS],
+        table[i * Limits::RECORD_WORDS],
         &text[start..end],
         at,
     )

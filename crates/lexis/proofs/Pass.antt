@@ -7,9 +7,9 @@ use native.Mathlib.Nat.{add-zero}
 use native.Mathlib.Numerals.{add-one, add-two}
 use native.Mathlib.Omega.{arith}
 use lib.ListN.{length, set, length-set}
-use Rattle.lexis.specs.Sizes.{maxTokens, tokenWords}
+use Rattle.lexis.specs.Sizes.{maxTokens, recordWords}
 use Rattle.lexis.specs.Lexer.{Token, Lexed, accepted, refused, prepend, lex}
-use Rattle.lexis.specs.Answer.{records, countedAfter, storedFrom, Written, Room}
+use Rattle.lexis.specs.Answer.{records, countedAfter, recordedFrom, Recorded, Room}
 use Rattle.lexis.specs.Steps.{stepAt}
 use Rattle.lexis.specs.declared.cursor.Cursor.{Cursor}
 use Rattle.lexis.specs.declared.cursor.Record.{Record}
@@ -31,7 +31,7 @@ pub record Lexing (text table₀ : List ℕ) (c : Cursor) (table : List ℕ) : T
   pub slow : c .count ≤ c .at
   pub long : length table ≡ length table₀
   pub counted : countedAfter 0 (lex text) ≡ countedAfter (c .count) (lexHere text c)
-  pub wrote : isAccepted (lexHere text c) ≡ true → storedFrom 0 table₀ (lex text) ≡ storedFrom (c .count * tokenWords) table (lexHere text c)
+  pub wrote : isAccepted (lexHere text c) ≡ true → recordedFrom 0 table₀ (lex text) ≡ recordedFrom (c .count * recordWords) table (lexHere text c)
 
 pub lexing-first : (text table : List ℕ) (c : Cursor) → c ≡ record { at = 0; count = 0 } → Lexing text table c table
 lexing-first text table c e =
@@ -46,11 +46,11 @@ good-more : (t : Token) (l : Lexed) → isAccepted l ≡ true → isAccepted (pr
 good-more t (accepted ts) h = refl
 good-more t (refused c p) h = h
 
-stored-one : (n i : ℕ) (table : List ℕ) (t : Token) (l : Lexed) → isAccepted l ≡ true → i ≡ n * tokenWords
-    → storedFrom i table (prepend t l) ≡ storedFrom ((n + 1) * tokenWords) (set (set (set table i (t .kind)) (i + 1) (t .start)) (i + 2) (t .start + length (t .bytes))) l
+stored-one : (n i : ℕ) (table : List ℕ) (t : Token) (l : Lexed) → isAccepted l ≡ true → i ≡ n * recordWords
+    → recordedFrom i table (prepend t l) ≡ recordedFrom ((n + 1) * recordWords) (set (set (set table i (t .kind)) (i + 1) (t .start)) (i + 2) (t .start + length (t .bytes))) l
 unfolding records
 stored-one n i table t (accepted ts) h e =
-    let f : (n + 1) * tokenWords ≡ suc (suc (suc i)) = omega arith in
+    let f : (n + 1) * recordWords ≡ suc (suc (suc i)) = omega arith in
     rw (add-one i, add-two i, f)
 stored-one n i table t (refused c p) h e = absurd (false≢true h)
 
@@ -58,25 +58,25 @@ counted-accepted : (n : ℕ) (l : Lexed) → countedAfter 0 l ≡ Tokens n → i
 counted-accepted n (accepted ts) e = refl
 counted-accepted n (refused c p) e = let z : _≡_ {A = ℕ} 0 1 = cc in absurd (omega arith)
 
-written-good : (l : Lexed) (before after : List ℕ) → isAccepted l ≡ true → after ≡ storedFrom 0 before l → Written l before after
+written-good : (l : Lexed) (before after : List ℕ) → isAccepted l ≡ true → after ≡ recordedFrom 0 before l → Recorded l before after
 written-good (accepted ts) before after h e = e
 written-good (refused c p) before after h e = absurd (false≢true h)
 
-written-fault : (l : Lexed) (before after : List ℕ) (k q : ℕ) → countedAfter 0 l ≡ Fault k q → length after ≡ length before → Written l before after
+written-fault : (l : Lexed) (before after : List ℕ) (k q : ℕ) → countedAfter 0 l ≡ Fault k q → length after ≡ length before → Recorded l before after
 written-fault (accepted ts) before after k q e h = let z : _≡_ {A = ℕ} 0 1 = cc in absurd (omega arith)
 written-fault (refused c p) before after k q e h = h
 
 module _ (text table₀ : List ℕ) (c : Cursor) (table : List ℕ) (inv : Lexing text table₀ c table) where
   pub lexing-next : (r : Record) (d : Cursor) (k p q : ℕ) → Stepped text c r d → k ≡ r .kind → p ≡ r .start → q ≡ r .end
-      → Lexing text table₀ d (set (set (set table (c .count * tokenWords) k) (c .count * tokenWords + 1) p) (c .count * tokenWords + 2) q)
+      → Lexing text table₀ d (set (set (set table (c .count * recordWords) k) (c .count * recordWords + 1) p) (c .count * recordWords + 2) q)
   lexing-next r d k p q s ek ep eq = record {
     within = s .within;
     few = omega (arith, s .room, s .counts);
     slow = omega (arith, s .counts, s .moves, inv .slow);
     long = simp length-set (inv .long);
     counted = inv .counted ∙ ap (countedAfter (c .count)) (s .lexes) ∙ counted-one (c .count) (d .count) _ (lexHere text d) (s .counts);
-    wrote = λ h. inv .wrote (ap isAccepted (s .lexes) ∙ good-more _ (lexHere text d) h) ∙ ap (storedFrom (c .count * tokenWords) table) (s .lexes)
-        ∙ stored-one (c .count) (c .count * tokenWords) table (record { kind = r .kind; start = r .start; bytes = s .bytes }) (lexHere text d) h refl
+    wrote = λ h. inv .wrote (ap isAccepted (s .lexes) ∙ good-more _ (lexHere text d) h) ∙ ap (recordedFrom (c .count * recordWords) table) (s .lexes)
+        ∙ stored-one (c .count) (c .count * recordWords) table (record { kind = r .kind; start = r .start; bytes = s .bytes }) (lexHere text d) h refl
         ∙ rw (ek, ep, eq, s .counts, s .ends);
   }
 
@@ -87,19 +87,19 @@ module _ (text table₀ : List ℕ) (c : Cursor) (table : List ℕ) (inv : Lexin
     slow = omega (arith, s .counts, s .moves, inv .slow);
     long = inv .long;
     counted = inv .counted ∙ ap (countedAfter (c .count)) (s .lexes) ∙ ap (λ (n : ℕ). countedAfter n (lexHere text d)) (sym (s .counts));
-    wrote = λ h. inv .wrote (ap isAccepted (s .lexes) ∙ h) ∙ ap (storedFrom (c .count * tokenWords) table) (s .lexes) ∙ ap (λ (n : ℕ). storedFrom (n * tokenWords) table (lexHere text d)) (sym (s .counts));
+    wrote = λ h. inv .wrote (ap isAccepted (s .lexes) ∙ h) ∙ ap (recordedFrom (c .count * recordWords) table) (s .lexes) ∙ ap (λ (n : ℕ). recordedFrom (n * recordWords) table (lexHere text d)) (sym (s .counts));
   }
 
-  pub lexing-end : (n m : ℕ) → n ≡ c .count → lexHere text c ≡ accepted [] → length table₀ ≡ m → tokenWords * min (length text) maxTokens ≤ m
-      → (Tokens n ≡ countedAfter 0 (lex text)) × (Written (lex text) table₀ table × Room (Tokens n) m)
+  pub lexing-end : (n m : ℕ) → n ≡ c .count → lexHere text c ≡ accepted [] → length table₀ ≡ m → recordWords * min (length text) maxTokens ≤ m
+      → (Tokens n ≡ countedAfter 0 (lex text)) × (Recorded (lex text) table₀ table × Room (Tokens n) m)
   unfolding records
   lexing-end n m e l f h =
       let counts : countedAfter 0 (lex text) ≡ Tokens n = inv .counted ∙ ap (countedAfter (c .count)) l ∙ ap Tokens (add-zero (c .count) ∙ sym e) in
       let good : isAccepted (lexHere text c) ≡ true = ap isAccepted l in
-      (sym counts, (written-good (lex text) table₀ table (counted-accepted n (lex text) counts) (sym (inv .wrote good ∙ ap (storedFrom (c .count * tokenWords) table) l)), (omega (arith, inv .few), omega (arith, inv .few, inv .slow, inv .within))))
+      (sym counts, (written-good (lex text) table₀ table (counted-accepted n (lex text) counts) (sym (inv .wrote good ∙ ap (recordedFrom (c .count * recordWords) table) l)), (omega (arith, inv .few), omega (arith, inv .few, inv .slow, inv .within))))
 
   pub lexing-fault : (code p k q m : ℕ) → k ≡ code → q ≡ p → lexHere text c ≡ refused code p
-      → (Fault k q ≡ countedAfter 0 (lex text)) × (Written (lex text) table₀ table × Room (Fault k q) m)
+      → (Fault k q ≡ countedAfter 0 (lex text)) × (Recorded (lex text) table₀ table × Room (Fault k q) m)
   lexing-fault code p k q m e f l =
       let counts : countedAfter 0 (lex text) ≡ Fault k q = inv .counted ∙ ap (countedAfter (c .count)) l ∙ rw (e, f) in
       (sym counts, (written-fault (lex text) table₀ table k q counts (inv .long), tt))

@@ -6,7 +6,7 @@ use mathlib.Core.List.{List, [], _∷_}
 use lib.Dec.{leb}
 use lib.ListN.{length}
 use lib.Seq.{sets}
-use Rattle.lexis.specs.Sizes.{maxText, maxTokens, tokenWords, tableWords}
+use Rattle.lexis.specs.Sizes.{maxText, maxTokens, recordWords, tableWords}
 use Rattle.lexis.specs.Code as Code
 use Rattle.lexis.specs.Lexer.{Token, Lexed, accepted, refused, lex}
 use Rattle.lexis.specs.declared.Answer.{Answer}
@@ -33,17 +33,17 @@ counted l = countedAfter 0 l
 
 -- the four numbers of what is counted: acceptance is 0, 0, 0 and the count; a fault has its code, text 1, its position and 0
 abbrev pub answerOf : Counted → Answer
-answerOf (Tokens n) = answer 0 0 0 n
+answerOf (Tokens n) = answer Code.accepted 0 0 n
 answerOf (Fault c p) = answer c 1 p 0
 
 -- the table with the records stored from the word `at` on; a refusal stores nothing
-abbrev pub storedFrom : ℕ → List ℕ → Lexed → List ℕ
-storedFrom at table (accepted ts) = sets table at (records ts)
-storedFrom at table (refused c p) = table
+abbrev pub recordedFrom : ℕ → List ℕ → Lexed → List ℕ
+recordedFrom at table (accepted ts) = sets table at (records ts)
+recordedFrom at table (refused c p) = table
 
 -- the table with the records stored in front
-abbrev pub stored : List ℕ → Lexed → List ℕ
-stored table l = storedFrom 0 table l
+abbrev pub recorded : List ℕ → Lexed → List ℕ
+recorded table l = recordedFrom 0 table l
 
 -- what `tokens` answers: code 1 for a short table, at 0 and in no text; code 2 for a long text, at 16384; then what the bytes give
 unfoldable pub tokensAnswer : List ℕ → List ℕ → Answer
@@ -54,15 +54,15 @@ tokensAnswer text table =
 -- what `tokens` leaves in the table: the records in front on acceptance, else what was there
 unfoldable pub tokensTable : List ℕ → List ℕ → List ℕ
 tokensTable text table =
-    let r = stored table (lex text) in
+    let r = recorded table (lex text) in
     cond (leb tableWords (length table)) (cond (leb (length text) maxText) r table) table
 
 -- what a lexer that writes as it goes leaves in a work area: the records in front on acceptance, anything of the same length on a fault
-abbrev pub Written : Lexed → List ℕ → List ℕ → Type 0
-Written (accepted ts) before after = after ≡ sets before 0 (records ts)
-Written (refused c p) before after = length after ≡ length before
+abbrev pub Recorded : Lexed → List ℕ → List ℕ → Type 0
+Recorded (accepted ts) before after = after ≡ sets before 0 (records ts)
+Recorded (refused c p) before after = length after ≡ length before
 
 -- what is counted has room in m words
 abbrev pub Room : Counted → ℕ → Type 0
-Room (Tokens n) m = (n ≤ maxTokens) × (n * tokenWords ≤ m)
+Room (Tokens n) m = (n ≤ maxTokens) × (n * recordWords ≤ m)
 Room (Fault c p) m = Unit {0}

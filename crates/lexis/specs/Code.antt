@@ -1,7 +1,11 @@
--- The codes of a refusal that the bytes of a text may get, by name. Acceptance has the code 0. Relies on nothing.
+-- The code of acceptance, and the codes of a refusal that the bytes of a text may get, by name. Relies on nothing.
 use Prim.Native.Nat.{ℕ}
 
--- code 1: the lent table is too short
+-- code 0: acceptance
+abbrev pub accepted : ℕ
+accepted = 0
+
+-- code 1: a lent table or work area is too short
 abbrev pub shortTable : ℕ
 shortTable = 1
 

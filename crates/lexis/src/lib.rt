@@ -20,10 +20,10 @@ ghost use mathlib.Core.Path.{_≡_};
 ghost use lib.Seq.{paste};
 ghost use Prim.Native.Nat.{_*_, _≤_, min};
 ghost use lib.ListN.{length};
-ghost use Rattle.lexis.specs.Answer.{tokensAnswer, tokensTable, counted, answerOf, stored, Written, Room};
+ghost use Rattle.lexis.specs.Answer.{tokensAnswer, tokensTable, counted, answerOf, recorded, Recorded, Room};
 ghost use Rattle.lexis.specs.Bytes.{classTable};
 ghost use Rattle.lexis.specs.Lexer.{lex};
-ghost use Rattle.lexis.specs.Sizes.{maxText, maxTokens, tokenWords, tableWords};
+ghost use Rattle.lexis.specs.Sizes.{maxText, maxTokens, recordWords, tokenWords, tableWords};
 
 // The four numbers of an answer.
 #[repr(C)]
@@ -39,6 +39,13 @@ pub enum Counted {
     Tokens(u32),
     Fault { code: u32, at: u32 },
 }
+
+// The bytes of a text that takes a small work area, which is cleared in less time.
+const TINY: usize = 128;
+
+const SHORT: usize = 512;
+
+const MIDDLE: usize = 2048;
 
 // The operation: the tokens of a text into a lent table. The work is done in a work area of its own, so that a refusal writes nothing.
 pub fn tokens(text: &[u8], table: &mut [u32]) -> Answer
@@ -62,13 +69,13 @@ pub fn tokens(text: &[u8], table: &mut [u32]) -> Answer
             detail: 0,
         };
     }
-    if text.len() <= 128 {
+    if text.len() <= TINY {
         return tokens_tiny(text, table);
     }
-    if text.len() <= 512 {
+    if text.len() <= SHORT {
         return tokens_short(text, table);
     }
-    if text.len() <= 2048 {
+    if text.len() <= MIDDLE {
         return tokens_middle(text, table);
     }
     tokens_long(text, table)
@@ -79,16 +86,16 @@ pub fn tokens(text: &[u8], table: &mut [u32]) -> Answer
 pub fn lex_into(classes: &[u8; 256], text: &[u8], work: &mut [u32]) -> Counted
     requires { ⌜ now classes ≡ classTable ⌝ }
     requires { ⌜ length (now text) ≤ maxText ⌝ }
-    requires { ⌜ tokenWords * min (length (now text)) maxTokens ≤ length (now work) ⌝ }
+    requires { ⌜ recordWords * min (length (now text)) maxTokens ≤ length (now work) ⌝ }
     ensures { λ r. ⌜ r ≡ counted (lex (now (text .entry))) ⌝ }
-    ensures { λ _. ⌜ Written (lex (now (text .entry))) (now (work .entry)) (now (work .exit)) ⌝ }
+    ensures { λ _. ⌜ Recorded (lex (now (text .entry))) (now (work .entry)) (now (work .exit)) ⌝ }
     ensures { λ r. ⌜ Room r (length (now (work .entry))) ⌝ }
 {
     let mut c = Cursor::new();
     loop {
         match c.next(classes, text) {
             Step::Next(r, d) => {
-                let i = c.count * Limits::TOKEN_WORDS;
+                let i = c.count * Limits::RECORD_WORDS;
                 work[i] = wide(r.kind);
                 work[i + 1] = narrow(r.start);
                 work[i + 2] = narrow(r.end);
@@ -115,9 +122,9 @@ fn tokens_tiny(text: &[u8], table: &mut [u32]) -> Answer
     requires { ⌜ length (now text) ≤ 128 ⌝ }
     requires { ⌜ tableWords ≤ length (now table) ⌝ }
     ensures { λ r. ⌜ r ≡ answerOf (counted (lex (now (text .entry)))) ⌝ }
-    ensures { λ _. ⌜ now (table .exit) ≡ stored (now (table .entry)) (lex (now (text .entry))) ⌝ }
+    ensures { λ _. ⌜ now (table .exit) ≡ recorded (now (table .entry)) (lex (now (text .entry))) ⌝ }
 {
-    let mut tiny = [0u32; 384];
+    let mut tiny = [0u32; TINY * Limits::RECORD_WORDS];
     tokens_by(text, &mut tiny, table)
 }
 
@@ -125,9 +132,9 @@ fn tokens_short(text: &[u8], table: &mut [u32]) -> Answer
     requires { ⌜ length (now text) ≤ 512 ⌝ }
     requires { ⌜ tableWords ≤ length (now table) ⌝ }
     ensures { λ r. ⌜ r ≡ answerOf (counted (lex (now (text .entry)))) ⌝ }
-    ensures { λ _. ⌜ now (table .exit) ≡ stored (now (table .entry)) (lex (now (text .entry))) ⌝ }
+    ensures { λ _. ⌜ now (table .exit) ≡ recorded (now (table .entry)) (lex (now (text .entry))) ⌝ }
 {
-    let mut short = [0u32; 1536];
+    let mut short = [0u32; SHORT * Limits::RECORD_WORDS];
     tokens_by(text, &mut short, table)
 }
 
@@ -135,9 +142,9 @@ fn tokens_middle(text: &[u8], table: &mut [u32]) -> Answer
     requires { ⌜ length (now text) ≤ 2048 ⌝ }
     requires { ⌜ tableWords ≤ length (now table) ⌝ }
     ensures { λ r. ⌜ r ≡ answerOf (counted (lex (now (text .entry)))) ⌝ }
-    ensures { λ _. ⌜ now (table .exit) ≡ stored (now (table .entry)) (lex (now (text .entry))) ⌝ }
+    ensures { λ _. ⌜ now (table .exit) ≡ recorded (now (table .entry)) (lex (now (text .entry))) ⌝ }
 {
-    let mut middle = [0u32; 6144];
+    let mut middle = [0u32; MIDDLE * Limits::RECORD_WORDS];
     tokens_by(text, &mut middle, table)
 }
 
@@ -145,19 +152,19 @@ fn tokens_long(text: &[u8], table: &mut [u32]) -> Answer
     requires { ⌜ length (now text) ≤ maxText ⌝ }
     requires { ⌜ tableWords ≤ length (now table) ⌝ }
     ensures { λ r. ⌜ r ≡ answerOf (counted (lex (now (text .entry)))) ⌝ }
-    ensures { λ _. ⌜ now (table .exit) ≡ stored (now (table .entry)) (lex (now (text .entry))) ⌝ }
+    ensures { λ _. ⌜ now (table .exit) ≡ recorded (now (table .entry)) (lex (now (text .entry))) ⌝ }
 {
-    let mut long = [0u32; Limits::TABLE_WORDS];
+    let mut long = [0u32; Limits::SCRATCH_START];
     tokens_by(text, &mut long, table)
 }
 
 // The answer of a text by way of a work area, and its records in the table where there is no fault.
 fn tokens_by(text: &[u8], work: &mut [u32], table: &mut [u32]) -> Answer
     requires { ⌜ length (now text) ≤ maxText ⌝ }
-    requires { ⌜ tokenWords * min (length (now text)) maxTokens ≤ length (now work) ⌝ }
+    requires { ⌜ recordWords * min (length (now text)) maxTokens ≤ length (now work) ⌝ }
     requires { ⌜ tableWords ≤ length (now table) ⌝ }
     ensures { λ r. ⌜ r ≡ answerOf (counted (lex (now (text .entry)))) ⌝ }
-    ensures { λ _. ⌜ now (table .exit) ≡ stored (now (table .entry)) (lex (now (text .entry))) ⌝ }
+    ensures { λ _. ⌜ now (table .exit) ≡ recorded (now (table .entry)) (lex (now (text .entry))) ⌝ }
 {
     let classes = CLASSES;
     match lex_into(&classes, text, &mut *work) {

@@ -1,7 +1,7 @@
 // Every size, stated once, and the test of a count against each.
 ghost use mathlib.Core.Path.{_≡_};
 ghost use lib.Dec.{leb, ltb};
-ghost use Rattle.lexis.specs.Sizes.{maxText, maxName, maxString, maxNumber, maxOperations, maxParameters, maxResults, maxInputs, maxOutputs, maxCalls, maxAssigned, maxUses, maxTokens, maxBrackets, tableWords, workWords, callWords, wireWords};
+ghost use Rattle.lexis.specs.Sizes.{maxText, maxTokens, maxName, maxString, maxNumber, maxOperations, tableWords, workWords, callWords, wireWords};
 
 pub struct Limits {}
 
@@ -48,20 +48,26 @@ impl Limits {
     // The identifiers in the arguments of a graph, repeats counted.
     pub const USES: usize = 1024;
 
-    // The words of a token record: kind, start, end after the last byte.
+    // The words of a record in a token table: kind, start, end after the last byte.
     pub const TOKEN_WORDS: usize = 3;
 
     // The words of a token table, at least.
     pub const TABLE_WORDS: usize = Limits::TOKENS * Limits::TOKEN_WORDS;
 
+    // The words of a call table, at least: four for each call.
+    pub const CALL_WORDS: usize = Limits::CALLS * 4;
+
+    // The words of a wire table, at least: two for each use.
+    pub const WIRE_WORDS: usize = Limits::USES * 2;
+
     // The words of a work area, at least.
     pub const WORK_WORDS: usize = 16384;
 
-    // The words of a call table, at least.
-    pub const CALL_WORDS: usize = 1536;
+    // The words of a token's record in a work area: kind, start, end after the last byte.
+    pub const RECORD_WORDS: usize = 3;
 
-    // The words of a wire table, at least.
-    pub const WIRE_WORDS: usize = 2048;
+    // Where the scratch words of a work area begin: behind a record for each token.
+    pub const SCRATCH_START: usize = Limits::TOKENS * Limits::RECORD_WORDS;
 
     // The exponent of a number as written, without its sign.
     pub const WRITTEN: u32 = 9999;
@@ -112,46 +118,10 @@ impl Limits {
         n <= Limits::OPERATIONS
     }
 
-    pub fn parameters_fit(n: usize) -> bool
-        ensures { λ r. ⌜ r ≡ leb n maxParameters ⌝ }
+    pub fn tokens_fit(n: usize) -> bool
+        ensures { λ r. ⌜ r ≡ leb n maxTokens ⌝ }
     {
-        n <= Limits::PARAMETERS
-    }
-
-    pub fn results_fit(n: usize) -> bool
-        ensures { λ r. ⌜ r ≡ leb n maxResults ⌝ }
-    {
-        n <= Limits::RESULTS
-    }
-
-    pub fn inputs_fit(n: usize) -> bool
-        ensures { λ r. ⌜ r ≡ leb n maxInputs ⌝ }
-    {
-        n <= Limits::INPUTS
-    }
-
-    pub fn outputs_fit(n: usize) -> bool
-        ensures { λ r. ⌜ r ≡ leb n maxOutputs ⌝ }
-    {
-        n <= Limits::OUTPUTS
-    }
-
-    pub fn calls_fit(n: usize) -> bool
-        ensures { λ r. ⌜ r ≡ leb n maxCalls ⌝ }
-    {
-        n <= Limits::CALLS
-    }
-
-    pub fn assigned_fit(n: usize) -> bool
-        ensures { λ r. ⌜ r ≡ leb n maxAssigned ⌝ }
-    {
-        n <= Limits::ASSIGNED
-    }
-
-    pub fn uses_fit(n: usize) -> bool
-        ensures { λ r. ⌜ r ≡ leb n maxUses ⌝ }
-    {
-        n <= Limits::USES
+        n <= Limits::TOKENS
     }
 
     // One more token after n of them.
@@ -159,13 +129,6 @@ impl Limits {
         ensures { λ r. ⌜ r ≡ ltb n maxTokens ⌝ }
     {
         n < Limits::TOKENS
-    }
-
-    // One more open bracket after n of them.
-    pub fn bracket_fits(n: usize) -> bool
-        ensures { λ r. ⌜ r ≡ ltb n maxBrackets ⌝ }
-    {
-        n < Limits::BRACKETS
     }
 
     // Whether a lent table of n words is long enough.

@@ -3,8 +3,8 @@ use lexis::Answer;
 ghost use mathlib.Core.Path.{_≡_};
 ghost use lib.ListN.{length};
 ghost use Rattle.lexis.specs.Answer.{tokensAnswer, tokensTable};
-ghost use Rattle.canonical.specs.Answer.{written, canonAnswer, outputAfter};
-ghost use Rattle.rules.specs.Answer.{declarationsAnswer, checked, checkAnswer, callsAfter, wiresAfter, workAfter};
+ghost use Rattle.canonical.specs.Answer.{canonRoom, written, canonAnswer, outputAfter};
+ghost use Rattle.rules.specs.Answer.{declarationsAnswer, checkRoom, checked, checkAnswer, callsAfter, wiresAfter, workAfter};
 
 #[no_mangle]
 pub extern "C" fn nnef_tokens(text: &[u8], table: &mut [u32]) -> Answer
@@ -31,9 +31,9 @@ pub extern "C" fn nnef_check(
     calls: &mut [u32],
     wires: &mut [u32],
 ) -> Answer
-    ensures { λ r. ⌜ r ≡ checkAnswer (now (list .entry)) (now (document .entry)) (length (now (work1 .entry))) (length (now (work2 .entry))) (length (now (calls .entry))) (length (now (wires .entry))) ⌝ }
-    ensures { λ _. ⌜ now (calls .exit) ≡ callsAfter (checked (now (list .entry)) (now (document .entry)) (length (now (work1 .entry))) (length (now (work2 .entry))) (length (now (calls .entry))) (length (now (wires .entry)))) (now (calls .entry)) ⌝ }
-    ensures { λ _. ⌜ now (wires .exit) ≡ wiresAfter (checked (now (list .entry)) (now (document .entry)) (length (now (work1 .entry))) (length (now (work2 .entry))) (length (now (calls .entry))) (length (now (wires .entry)))) (now (wires .entry)) ⌝ }
+    ensures { λ r. ⌜ r ≡ checkAnswer (now (list .entry)) (now (document .entry)) (checkRoom (now (work1 .entry)) (now (work2 .entry)) (now (calls .entry)) (now (wires .entry))) ⌝ }
+    ensures { λ _. ⌜ now (calls .exit) ≡ callsAfter (checked (now (list .entry)) (now (document .entry)) (checkRoom (now (work1 .entry)) (now (work2 .entry)) (now (calls .entry)) (now (wires .entry)))) (now (calls .entry)) ⌝ }
+    ensures { λ _. ⌜ now (wires .exit) ≡ wiresAfter (checked (now (list .entry)) (now (document .entry)) (checkRoom (now (work1 .entry)) (now (work2 .entry)) (now (calls .entry)) (now (wires .entry)))) (now (wires .entry)) ⌝ }
     ensures { λ r. ⌜ now (work1 .exit) ≡ workAfter r (now (work1 .entry)) ⌝ }
     ensures { λ r. ⌜ now (work2 .exit) ≡ workAfter r (now (work2 .entry)) ⌝ }
 {
@@ -48,8 +48,8 @@ pub extern "C" fn nnef_canon(
     work2: &mut [u32],
     out: &mut [u8],
 ) -> Answer
-    ensures { λ r. ⌜ r ≡ canonAnswer (now (list .entry)) (now (document .entry)) (length (now (work1 .entry))) (length (now (work2 .entry))) (length (now (out .entry))) ⌝ }
-    ensures { λ _. ⌜ now (out .exit) ≡ outputAfter (written (now (list .entry)) (now (document .entry)) (length (now (work1 .entry))) (length (now (work2 .entry))) (length (now (out .entry)))) (now (out .entry)) ⌝ }
+    ensures { λ r. ⌜ r ≡ canonAnswer (now (list .entry)) (now (document .entry)) (canonRoom (now (work1 .entry)) (now (work2 .entry)) (now (out .entry))) ⌝ }
+    ensures { λ _. ⌜ now (out .exit) ≡ outputAfter (written (now (list .entry)) (now (document .entry)) (canonRoom (now (work1 .entry)) (now (work2 .entry)) (now (out .entry)))) (now (out .entry)) ⌝ }
     ensures { λ r. ⌜ now (work1 .exit) ≡ workAfter r (now (work1 .entry)) ⌝ }
     ensures { λ r. ⌜ now (work2 .exit) ≡ workAfter r (now (work2 .entry)) ⌝ }
 {

@@ -22,7 +22,7 @@ use Rattle.rules.specs.Wiring.{isExternal}
 use Rattle.rules.specs.Calls.{Calls, CallAt}
 use Rattle.rules.specs.Calls.Calls.{no-call}
 use Rattle.rules.specs.Walks.{when, scan, assigning, consuming, callFaults, bodyFaults}
-use Rattle.rules.specs.Graphs.{Counted, Stepped}
+use Rattle.rules.specs.Graphs.{WalkCounts, Stepped}
 use Rattle.rules.specs.declared.calls.Places.{Places}
 use Rattle.rules.specs.declared.body.Walk.{Walk}
 use Rattle.rules.proofs.First.{first-append}
@@ -34,7 +34,7 @@ use Rattle.rules.proofs.Sums.{assigned-last, used-last}
 module _ (text table : List ℕ) (n : ℕ) (inputs : List Token) where
   -- ---- one call
 
-  module _ (w r : Walk) (ds : List Call) (c : Call) (us : List Token) (p : Places) (ext : Bool) (at : CallAt text table n (w .at) p c us) (k : Counted w ds) (x : ext ≡ isExternal c) where
+  module _ (w r : Walk) (ds : List Call) (c : Call) (us : List Token) (p : Places) (ext : Bool) (at : CallAt text table n (w .at) p c us) (k : WalkCounts w ds) (x : ext ≡ isExternal c) where
     abbrev L : List Token
     L = namesAmong (toks text table (p .equal) (w .at))
 
@@ -81,7 +81,7 @@ module _ (text table : List ℕ) (n : ℕ) (inputs : List Token) where
       pub left : List Call
       pub before : Calls b (toks text table n body) done (toks text table n (w .at))
       pub behind : Calls b (toks text table n (w .at)) left (toks text table n end)
-      pub counted : Counted w done
+      pub counted : WalkCounts w done
       pub found : first (bodyFaults inputs [] cs) ≡ earlier (meant (w .best)) (first (bodyFaults inputs done left))
 
     module _ (b : ℕ) (cs : List Call) where
@@ -98,7 +98,7 @@ module _ (text table : List ℕ) (n : ℕ) (inputs : List Token) where
           }
 
       pub going-next : (w r : Walk) → w .at < end → end ≤ n → Going b cs w
-          → ((ds : List Call) (c : Call) (us : List Token) → Calls b (toks text table n body) ds (toks text table n (w .at)) → call b (toks text table n (w .at)) ≡ ok c us → Counted w ds → Stepped text table n inputs ds c us w r)
+          → ((ds : List Call) (c : Call) (us : List Token) → Calls b (toks text table n body) ds (toks text table n (w .at)) → call b (toks text table n (w .at)) ≡ ok c us → WalkCounts w ds → Stepped text table n inputs ds c us w r)
           → Going b cs r
       unfolding bodyFaults
       going-next w r h l g s =

@@ -9,9 +9,9 @@ use native.Mathlib.Nat.{zero-add}
 use native.Mathlib.Omega.{arith}
 use lib.ListN.{length, take, drop}
 use borrow.Author.Tests.{ne-eqb}
-use Rattle.lexis.specs.Sizes.{maxTokens, tokenWords, tableWords, maxBrackets}
+use Rattle.lexis.specs.Sizes.{maxTokens, recordWords, scratchStart, maxBrackets}
 use Rattle.lexis.specs.Lexer.{Token, Lexed, accepted, refused, lex}
-use Rattle.lexis.specs.Answer.{Written, Room, answer}
+use Rattle.lexis.specs.Answer.{Recorded, Room, answer}
 use Rattle.lexis.specs.Answer as LA
 use Rattle.lexis.specs.declared.Answer.{Answer}
 use Rattle.lexis.specs.declared.Counted.{Counted}
@@ -28,10 +28,10 @@ use Rattle.rules.specs.Fault.{first}
 use Rattle.rules.specs.Best.{faultOf, meant}
 use Rattle.rules.specs.ListRules.{listFaults}
 use Rattle.rules.specs.DocumentRules.{documentFaults}
-use Rattle.rules.specs.Lists.{Heads, Places}
+use Rattle.rules.specs.Lists.{Heads, NamePlaces}
 use Rattle.rules.specs.Operations.{Opened}
 use Rattle.rules.specs.Answer.{Stage, pass, stop, andThen, bytesStage, syntaxStage, rulesStage, listStages, documentStages}
-use Rattle.rules.specs.Stages.{namesOf, ListPassed, DocumentRead, bothStages, BothPassed, BothDone}
+use Rattle.rules.specs.Stages.{directoryOf, ListPassed, DocumentRead, BothPassed, BothDone}
 use Rattle.rules.specs.declared.best.Best.{Best}
 use Rattle.rules.specs.declared.stages.Staged.{Staged}
 use Rattle.rules.specs.declared.stages.Staged.the-variants.{Passed, Stopped}
@@ -53,7 +53,7 @@ document-clean hs text d e = ap first (passed 2 parseDocument (documentFaults hs
 -- ---- bytes and syntax of the document
 
 module _ (text before after : List ℕ) (n : ℕ) (small : n ≤ maxTokens) where
-  read-by : (l : Lexed) → lex text ≡ l → C.Tokens n ≡ readAfter S.Document (length text) l → Written l before after → n * tokenWords ≤ length before → DocumentRead text after n
+  read-by : (l : Lexed) → lex text ≡ l → C.Tokens n ≡ readAfter S.Document (length text) l → Recorded l before after → n * recordWords ≤ length before → DocumentRead text after n
   unfolding documentStages
   read-by (refused c p) e h w r = let z : _≡_ {A = ℕ} 0 1 = cc in absurd (omega arith)
   read-by (accepted ts) e h w r = go (parseDocument ts) refl h
@@ -62,7 +62,7 @@ module _ (text before after : List ℕ) (n : ℕ) (small : n ≤ maxTokens) wher
       go (bad c us) q k = let z : _≡_ {A = ℕ} 0 1 = cc in absurd (omega arith)
       go (ok d us) q k =
           let m : n ≡ length ts = cc in
-          let g = got text before after (C.Tokens n) n (ap C.Tokens (m ∙ sym (zero-add (length ts))) ∙ ap LA.counted (sym e)) (subst (λ (l : Lexed). Written l before after) (sym e) w) (small, r) refl in
+          let g = got text before after (C.Tokens n) n (ap C.Tokens (m ∙ sym (zero-add (length ts))) ∙ ap LA.counted (sym e)) (subst (λ (l : Lexed). Recorded l before after) (sym e) w) (small, r) refl in
           let same : g .tokens ≡ ts = let y = sym (g .is) ∙ e in cc in
           let t : toks text after n 0 ≡ ts = g .decoded ∙ same in
           let none : us ≡ [] = document-all-read maxBrackets ts d us q in
@@ -78,7 +78,7 @@ module _ (text before after : List ℕ) (n : ℕ) (small : n ≤ maxTokens) wher
                 ∙ ap (λ (x : Parse Document). andThen (syntaxStage 2 text x) (λ y. rulesStage 2 y (first (documentFaults hs y)))) q;
           }
 
-  pub read-document : {x : Counted} → x ≡ readOf S.Document text → x ≡ C.Tokens n → Written (lex text) before after → Room x (length before) → DocumentRead text after n
+  pub read-document : {x : Counted} → x ≡ readOf S.Document text → x ≡ C.Tokens n → Recorded (lex text) before after → Room x (length before) → DocumentRead text after n
   read-document {x} h e w r = read-by (lex text) refl (sym e ∙ h) w (subst (λ (y : Counted). Room y (length before)) e r .1)
 
 -- a fault of the bytes or the syntax stops the stages
@@ -98,17 +98,17 @@ document-stops hs text {c} {p} h e = go (lex text) (sym e ∙ h)
 -- ---- the directory as it is lent: a part of the work area
 
 abbrev namesPart : List ℕ → ℕ → List ℕ
-namesPart work k = take (tableWords + k - tableWords) (drop tableWords work)
+namesPart work k = take (scratchStart + k - scratchStart) (drop scratchStart work)
 
-part-is : (work : List ℕ) (k : ℕ) → namesOf work k ≡ namesPart work k
-part-is work k = let e : k ≡ tableWords + k - tableWords = omega arith in ap (λ (m : ℕ). take m (drop tableWords work)) e
+part-is : (work : List ℕ) (k : ℕ) → directoryOf work k ≡ namesPart work k
+part-is work k = let e : k ≡ scratchStart + k - scratchStart = omega arith in ap (λ (m : ℕ). take m (drop scratchStart work)) e
 
 module _ {text work : List ℕ} {n k : ℕ} (p : ListPassed text work n k) where
   pub part-heads : Heads text work n maxBrackets (namesPart work k) (p .headers)
   part-heads = subst (λ (x : List ℕ). Heads text work n maxBrackets x (p .headers)) (part-is work k) (p .heads)
 
-  pub part-places : Places n (namesPart work k)
-  part-places = subst (λ (x : List ℕ). Places n x) (part-is work k) (p .places)
+  pub part-places : NamePlaces n (namesPart work k)
+  part-places = subst (λ (x : List ℕ). NamePlaces n x) (part-is work k) (p .places)
 
   pub part-open : Opened n (namesPart work k)
   part-open = heads-open text work n maxBrackets part-places part-heads

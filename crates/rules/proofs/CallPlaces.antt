@@ -18,7 +18,7 @@ use Rattle.syntax.proofs.Table.{toks-rest}
 use Rattle.syntax.proofs.Sound.{argument-reads, left-reads}
 use Rattle.rules.specs.Names.{firstToken, assigned, used}
 use Rattle.rules.specs.Scans.{namesAmong, usesAmong, fromSymbol, fromClose}
-use Rattle.rules.specs.Calls.{Arguments, CallAt, InTable}
+use Rattle.rules.specs.Calls.{Arguments, CallAt, PlacesInside}
 use Rattle.rules.specs.declared.calls.Places.{Places}
 use Rattle.rules.proofs.CallParses.{then-ok, expect-ok, reads-ok, Reading, separated-ok}
 use Rattle.rules.proofs.Flat.{Comes, left-equal, left-names, left-starts, arguments-uses, arguments-close, names-past, uses-past, symbol-here, close-here}
@@ -81,7 +81,7 @@ module _ (text table : List ℕ) (n at : ℕ) where
     pub close-is : toks text table n (p .close) ≡ fromClose 1 (toks text table n (p .equal + 3))
     pub next-is : p .next ≡ cond (begins semicolon (toks text table n (p .close + 1))) (p .close + 2) (p .close + 1)
 
-  pub found-in : (p : Places) → at ≤ n → Found p → InTable n at p
+  pub found-in : (p : Places) → at ≤ n → Found p → PlacesInside n at p
   found-in p l f =
       let w = past (begins semicolon (toks text table n (p .close + 1))) (f .next-is) in
       record { from = f .from; left = f .left; right = f .right; on = let a = f .within in let b = f .left in omega arith; past = w }

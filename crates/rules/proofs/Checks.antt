@@ -13,8 +13,8 @@ use Rattle.lexis.specs.Answer.{answer}
 use Rattle.lexis.specs.declared.Answer.{Answer}
 use Rattle.syntax.specs.Tree.{Header}
 use Rattle.rules.specs.Tables.{callTable, wireTable}
-use Rattle.rules.specs.Answer.{Stage, stop, counted, guard, short, checked, checkAnswer, Checked, callsAfter, wiresAfter, workAfter}
-use Rattle.rules.specs.Stages.{DocumentPassed, bothStages, BothPassed}
+use Rattle.rules.specs.Answer.{Stage, stop, stageAnswer, guard, short, checked, checkAnswer, Checked, callsAfter, wiresAfter, workAfter}
+use Rattle.rules.specs.Stages.{DocumentPassed, BothPassed}
 use Rattle.rules.specs.Graphs.{GraphAt}
 use Rattle.rules.specs.Checks.{Ended, Bodied}
 use Rattle.rules.specs.declared.graph.Graph.{Graph}
@@ -74,11 +74,11 @@ module _ (list doc : List ℕ) (work₁ work₂ calls wires : ℕ) where
 
   pub refused-with : {r : Answer} → checked list doc work₁ work₂ calls wires ≡ stop r → r ≡ checkAnswer list doc work₁ work₂ calls wires
   unfolding checkAnswer
-  refused-with e = sym (ap (λ (s : Stage Checked). counted s (λ k. length (k .document .calls))) e)
+  refused-with e = sym (ap (λ (s : Stage Checked). stageAnswer s (λ k. length (k .document .calls))) e)
 
-  pub answered-with : {r : Answer} → checked list doc work₁ work₂ calls wires ≡ bothStages list doc → r ≡ counted (bothStages list doc) (λ k. length (k .document .calls)) → r ≡ checkAnswer list doc work₁ work₂ calls wires
+  pub answered-with : {r : Answer} → checked list doc work₁ work₂ calls wires ≡ bothStages list doc → r ≡ stageAnswer (bothStages list doc) (λ k. length (k .document .calls)) → r ≡ checkAnswer list doc work₁ work₂ calls wires
   unfolding checkAnswer
-  answered-with e h = h ∙ sym (ap (λ (s : Stage Checked). counted s (λ k. length (k .document .calls))) e)
+  answered-with e h = h ∙ sym (ap (λ (s : Stage Checked). stageAnswer s (λ k. length (k .document .calls))) e)
 
   pub calls-kept : {r : Answer} (table : List ℕ) → checked list doc work₁ work₂ calls wires ≡ stop r → table ≡ callsAfter (checked list doc work₁ work₂ calls wires) table
   unfolding callsAfter

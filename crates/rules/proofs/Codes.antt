@@ -28,7 +28,7 @@ use Rattle.rules.specs.Names.{repeats, startOf}
 use Rattle.rules.specs.Reading.{fits}
 use Rattle.rules.specs.ListRules.{over, paramNames, headerNames, listCounts, listRepeats, badDefault, badDefaults, listFaults}
 use Rattle.rules.proofs.ListFaults.{countsOf, repeatsOf, misfitsOf}
-use Rattle.rules.specs.Answer.{Stage, pass, stop, andThen, bytesStage, syntaxStage, rulesStage, listStages, counted, declared, declarationsAnswer, workAfter}
+use Rattle.rules.specs.Answer.{Stage, pass, stop, andThen, bytesStage, syntaxStage, rulesStage, listStages, stageAnswer, declared, declarationsAnswer, workAfter}
 
 -- ---- the codes of the rules
 
@@ -168,18 +168,18 @@ pub answer-long : (list : List ℕ) (work : ℕ) → leb workWords work ≡ true
 unfolding declarationsAnswer declared
 answer-long list work h k = simp (h, k)
 
-pub answer-good : (list : List ℕ) (work : ℕ) → leb workWords work ≡ true → leb (length list) maxText ≡ true → counted (listStages list) length ≡ declarationsAnswer list work
+pub answer-good : (list : List ℕ) (work : ℕ) → leb workWords work ≡ true → leb (length list) maxText ≡ true → stageAnswer (listStages list) length ≡ declarationsAnswer list work
 unfolding declarationsAnswer declared
 answer-good list work h k = simp (h, k)
 
 -- a work area after the stages is cleared
-pub cleared : (list work : List ℕ) (r : Answer) → r ≡ counted (listStages list) length → replicate (length work) 0 ≡ workAfter r work
+pub cleared : (list work : List ℕ) (r : Answer) → r ≡ stageAnswer (listStages list) length → replicate (length work) 0 ≡ workAfter r work
 unfolding workAfter
 cleared list work r h = go (listStages list) refl h
   where
     other : (c : ℕ) → (c ≡ 1 → ⊥) → (c ≡ 2 → ⊥) → replicate (length work) 0 ≡ cond (eqb c 1 || eqb c 2) work (replicate (length work) 0)
     other c a b = simp (ne-eqb c 1 a, ne-eqb c 2 b)
 
-    go : (s : Stage (List Header)) → listStages list ≡ s → r ≡ counted s length → replicate (length work) 0 ≡ cond (eqb (r .code) 1 || eqb (r .code) 2) work (replicate (length work) 0)
+    go : (s : Stage (List Header)) → listStages list ≡ s → r ≡ stageAnswer s length → replicate (length work) 0 ≡ cond (eqb (r .code) 1 || eqb (r .code) 2) work (replicate (length work) 0)
     go (pass hs) e k = let c : r .code ≡ 0 = ap (λ (a : Answer). a .code) k in other (r .code) (λ z. omega arith) (λ z. omega arith)
     go (stop q) e k = let c : r .code ≡ q .code = ap (λ (a : Answer). a .code) k in let d = stage-codes list q e in other (r .code) (λ z. omega arith) (λ z. omega arith)

@@ -23,7 +23,7 @@ use Rattle.rules.specs.Fault.{first}
 use Rattle.rules.specs.Reading.{isSome}
 use Rattle.rules.specs.DocumentRules.{find}
 use Rattle.rules.specs.Tables.{indexOf}
-use Rattle.rules.specs.Lists.{onFrom, ownFaults, Heads, no-head, a-head, Places, lookupFrom, entries}
+use Rattle.rules.specs.Lists.{onFrom, headerFaults, Heads, no-head, a-head, NamePlaces, lookupFrom, entries}
 use Rattle.rules.specs.Found.{found}
 use Rattle.rules.specs.Operations.{Opened}
 use Rattle.rules.specs.declared.operation.Lookup.{Lookup}
@@ -121,15 +121,15 @@ module _ (text table : List ℕ) (n b : ℕ) where
     pub behind : List Token
     pub read : header b (toks text table n (q - 1)) ≡ ok head behind
     pub is : find hs t ≡ some head
-    pub own : first (flatMap ownFaults hs) ≡ nothing → first (ownFaults head) ≡ nothing
+    pub own : first (flatMap headerFaults hs) ≡ nothing → first (headerFaults head) ≡ nothing
 
   head-there : {qs : List ℕ} {hs : List Header} (t : Token) → Heads text table n b qs hs → isSome (find hs t) ≡ true → HeadAt (getD qs (indexOf hs t) 0) hs t
   unfolding find indexOf flatMap
   head-there t no-head e = absurd (false≢true e)
   head-there t (a-head {q = q} {h = h} {us = us} {qs = qs} {hs = hs} r d w) e = go (sameBytes (h .name .bytes) (t .bytes)) refl e (head-there t w)
     where
-      sides : first (ownFaults h ++ flatMap ownFaults hs) ≡ nothing → (first (ownFaults h) ≡ nothing) × (first (flatMap ownFaults hs) ≡ nothing)
-      sides z = neither _ _ (sym (first-append (ownFaults h) (flatMap ownFaults hs)) ∙ z)
+      sides : first (headerFaults h ++ flatMap headerFaults hs) ≡ nothing → (first (headerFaults h) ≡ nothing) × (first (flatMap headerFaults hs) ≡ nothing)
+      sides z = neither _ _ (sym (first-append (headerFaults h) (flatMap headerFaults hs)) ∙ z)
 
       go : (c : Bool) → sameBytes (h .name .bytes) (t .bytes) ≡ c → isSome (cond (sameBytes (h .name .bytes) (t .bytes)) (some h) (find hs t)) ≡ true
           → (isSome (find hs t) ≡ true → HeadAt (getD qs (indexOf hs t) 0) hs t)
@@ -157,10 +157,10 @@ module _ (text table : List ℕ) (n b : ℕ) where
       let s = found-some hs t e q in
       rw (s .1) (head-there t w (s .0))
 
-  pub heads-open : {qs : List ℕ} {hs : List Header} → Places n qs → Heads text table n b qs hs → Opened n qs
+  pub heads-open : {qs : List ℕ} {hs : List Header} → NamePlaces n qs → Heads text table n b qs hs → Opened n qs
   heads-open {qs} {hs} p w = record { within = λ i l. go w p i l }
     where
-      go : {ps : List ℕ} {gs : List Header} → Heads text table n b ps gs → Places n ps → (i : ℕ) → i < length ps → getD ps i 0 + 2 ≤ n
+      go : {ps : List ℕ} {gs : List Header} → Heads text table n b ps gs → NamePlaces n ps → (i : ℕ) → i < length ps → getD ps i 0 + 2 ≤ n
       go no-head p i l = absurd (omega arith)
       go (a-head {q = q} r d w) p zero l = begins-within text table n b q (p .below 0 (omega arith) .1) r
       go (a-head {q = q} r d w) p (suc i) l = go w (record { below = λ j m. p .below (suc j) (omega arith) }) i (omega arith)

@@ -19,7 +19,7 @@ use Rattle.rules.specs.Names.{isAmong}
 use Rattle.rules.specs.Reading.{isSome}
 use Rattle.rules.specs.DocumentRules.{find}
 use Rattle.rules.specs.Tables.{indexOf}
-use Rattle.rules.specs.Lists.{Heads, no-head, a-head, Places, entries, lookupFrom}
+use Rattle.rules.specs.Lists.{Heads, no-head, a-head, NamePlaces, entries, lookupFrom}
 use Rattle.rules.specs.Found.{found}
 use Rattle.rules.specs.declared.operation.Lookup.{Lookup}
 use Rattle.rules.specs.declared.operation.Lookup.the-variants.{At, Missing}
@@ -27,16 +27,16 @@ use Rattle.rules.proofs.Own.{name-there, keyword-there}
 
 -- ---- what a directory says
 
-pub places-tail : {n q : ℕ} {qs : List ℕ} → Places n (q ∷ qs) → Places n qs
+pub places-tail : {n q : ℕ} {qs : List ℕ} → NamePlaces n (q ∷ qs) → NamePlaces n qs
 places-tail p = record { below = λ i h. p .below (suc i) (omega arith) }
 
 module _ (text table : List ℕ) (n b : ℕ) where
-  pub heads-names : {qs : List ℕ} {hs : List Header} → Places n qs → Heads text table n b qs hs → entries text table qs ≡ map (λ (h : Header). h .name) hs
+  pub heads-names : {qs : List ℕ} {hs : List Header} → NamePlaces n qs → Heads text table n b qs hs → entries text table qs ≡ map (λ (h : Header). h .name) hs
   heads-names p no-head = refl
   heads-names p (a-head {q = q} r e hs) =
       ap₂ (λ (x : Token) (xs : List Token). x ∷ xs) (name-there text table n b q (p .below 0 (omega arith) .1) r e) (heads-names (places-tail p) hs)
 
-  pub heads-words : {qs : List ℕ} {hs : List Header} → Places n qs → Heads text table n b qs hs → map (λ q. startAt table (q - 1)) qs ≡ map (λ (h : Header). h .keyword .start) hs
+  pub heads-words : {qs : List ℕ} {hs : List Header} → NamePlaces n qs → Heads text table n b qs hs → map (λ q. startAt table (q - 1)) qs ≡ map (λ (h : Header). h .keyword .start) hs
   unfolding tokenAt
   heads-words p no-head = refl
   heads-words p (a-head {q = q} r e hs) =
@@ -79,7 +79,7 @@ lookup-found k (g ∷ hs) t = go (sameBytes (g .name .bytes) (t .bytes)) (lookup
     go true e = ap At (sym (add-zero k))
     go false e = let z : suc k + indexOf hs t ≡ k + suc (indexOf hs t) = omega arith in e ∙ ap (λ (m : ℕ). cond (isSome (find hs t)) (At m) Missing) z
 
-pub search-found : (text table words : List ℕ) (n b : ℕ) (t : Token) (hs : List Header) → Places n words → Heads text table n b words hs → lookupFrom 0 (entries text table words) t ≡ found hs t
+pub search-found : (text table words : List ℕ) (n b : ℕ) (t : Token) (hs : List Header) → NamePlaces n words → Heads text table n b words hs → lookupFrom 0 (entries text table words) t ≡ found hs t
 unfolding found
 search-found text table words n b t hs p h =
     let z : 0 + indexOf hs t ≡ indexOf hs t = omega arith in

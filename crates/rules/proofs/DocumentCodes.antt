@@ -30,8 +30,7 @@ use Rattle.rules.specs.ListRules.{over, paramNames}
 use Rattle.rules.specs.Binding.{Slot, leading, labels, taken, slots, takesPlace, later, misplacedFrom, misplaced, misnamed, misfit, misfits, isMissing, missingFrom, missing}
 use Rattle.rules.specs.Wiring.{strangers, isExternal, again, unwiredAfter, misfedBy, misfed, unmade}
 use Rattle.rules.specs.DocumentRules.{find, byOperation, badVersion, documentCounts, graphRepeats, undeclared, argumentFaults, unmatched, documentFaults}
-use Rattle.rules.specs.Answer.{Stage, pass, stop, andThen, bytesStage, syntaxStage, rulesStage, listStages, documentStages, counted, Checked, workAfter}
-use Rattle.rules.specs.Stages.{bothStages}
+use Rattle.rules.specs.Answer.{Stage, pass, stop, andThen, bytesStage, syntaxStage, rulesStage, listStages, documentStages, bothStages, stageAnswer, Checked, workAfter}
 use Rattle.rules.proofs.Codes.{stage-codes}
 
 -- ---- the codes of the rules
@@ -235,13 +234,13 @@ both-codes list doc r h = go (listStages list) refl h
     go (stop q) e k = let z : q ≡ r = cc in stage-codes list r (e ∙ ap (λ (x : Answer). stop x) z)
 
 -- a work area after the stages is cleared
-pub both-cleared : (list doc work : List ℕ) (r : Answer) → r ≡ counted (bothStages list doc) (λ k. length (k .document .calls)) → replicate (length work) 0 ≡ workAfter r work
+pub both-cleared : (list doc work : List ℕ) (r : Answer) → r ≡ stageAnswer (bothStages list doc) (λ k. length (k .document .calls)) → replicate (length work) 0 ≡ workAfter r work
 unfolding workAfter
 both-cleared list doc work r h = go (bothStages list doc) refl h
   where
     other : (c : ℕ) → (c ≡ 1 → ⊥) → (c ≡ 2 → ⊥) → replicate (length work) 0 ≡ cond (eqb c 1 || eqb c 2) work (replicate (length work) 0)
     other c a b = simp (ne-eqb c 1 a, ne-eqb c 2 b)
 
-    go : (s : Stage Checked) → bothStages list doc ≡ s → r ≡ counted s (λ k. length (k .document .calls)) → replicate (length work) 0 ≡ cond (eqb (r .code) 1 || eqb (r .code) 2) work (replicate (length work) 0)
+    go : (s : Stage Checked) → bothStages list doc ≡ s → r ≡ stageAnswer s (λ k. length (k .document .calls)) → replicate (length work) 0 ≡ cond (eqb (r .code) 1 || eqb (r .code) 2) work (replicate (length work) 0)
     go (pass k) e q = let c : r .code ≡ 0 = ap (λ (a : Answer). a .code) q in other (r .code) (λ z. omega arith) (λ z. omega arith)
     go (stop a) e q = let c : r .code ≡ a .code = ap (λ (x : Answer). x .code) q in let d = both-codes list doc a e in other (r .code) (λ z. omega arith) (λ z. omega arith)

@@ -6,24 +6,24 @@ use Prim.Native.Nat.{ℕ, zero, suc, _+_, _-_, _*_, _<_, _≤_}
 use native.Mathlib.Omega.{arith}
 use lib.ListN.{length, take, drop, length-take}
 use lib.Seq.{getD-take, length-take-le}
-use Rattle.lexis.specs.Sizes.{tokenWords}
+use Rattle.lexis.specs.Sizes.{recordWords}
 use Rattle.lexis.specs.Lexer.{Token}
 use Rattle.syntax.specs.Tree.{Header}
 use Rattle.syntax.specs.Parser.{header}
 use Rattle.syntax.specs.Table.{kindAt, startAt, endAt, tokenAt, tokensFrom, toks, Holds}
 use Rattle.rules.specs.Lists.{Heads, no-head, a-head}
 
-module _ (text work : List ℕ) (m n : ℕ) (fit : n * tokenWords ≤ m) where
+module _ (text work : List ℕ) (m n : ℕ) (fit : n * recordWords ≤ m) where
   start-front : (i : ℕ) → i < n → startAt (take m work) i ≡ startAt work i
-  start-front i h = getD-take m work (i * tokenWords + 1) 0 (omega arith)
+  start-front i h = getD-take m work (i * recordWords + 1) 0 (omega arith)
 
   end-front : (i : ℕ) → i < n → endAt (take m work) i ≡ endAt work i
-  end-front i h = getD-take m work (i * tokenWords + 2) 0 (omega arith)
+  end-front i h = getD-take m work (i * recordWords + 2) 0 (omega arith)
 
   token-front : (i : ℕ) → i < n → tokenAt text (take m work) i ≡ tokenAt text work i
   unfolding tokenAt
   token-front i h =
-      let a : kindAt (take m work) i ≡ kindAt work i = getD-take m work (i * tokenWords) 0 (omega arith) in
+      let a : kindAt (take m work) i ≡ kindAt work i = getD-take m work (i * recordWords) 0 (omega arith) in
       let b = start-front i h in
       let c = end-front i h in
       λ j. record { kind = a j; start = b j; bytes = take (c j - b j) (drop (b j) text) }

@@ -14,7 +14,7 @@ use Rattle.syntax.specs.Parser.Row.{commas}
 use Rattle.syntax.proofs.Row.{Shrinks}
 use Rattle.syntax.proofs.Shrinks.{param-shrinks, result-shrinks}
 use Rattle.rules.specs.Names.{those}
-use Rattle.rules.specs.Lists.{isA, upto, onFrom, Plain, Run, stop, pass, item, endsHeader}
+use Rattle.rules.specs.Lists.{isA, upto, onFrom, Plain, ItemRun, stop, pass, item, endsHeader}
 use Rattle.rules.proofs.Passes.{Passes, plain-of, passes-trans, over-is, type-over, default-over}
 use Rattle.rules.proofs.Passes.Passes.{stop as no-more, pass as one-more}
 use Rattle.rules.proofs.HeaderParses.{Rowed, row-ok, param-ok, result-ok, header-ok}
@@ -58,24 +58,24 @@ result-lays b ts r us h =
 -- ---- rows of such items
 
 module _ {A : Type 0} (read : Reader A) (nameOf : A → Token) (small : Shrinks read) (lays : Lays read nameOf) where
-  run-over : {ts us ws : List Token} {xs : List A} → Passes ts us → Run read nameOf us xs ws → Run read nameOf ts xs ws
+  run-over : {ts us ws : List Token} {xs : List A} → Passes ts us → ItemRun read nameOf us xs ws → ItemRun read nameOf ts xs ws
   run-over no-more r = r
   run-over (one-more h p) r = pass h (run-over p r)
 
   -- an item, and the run after it
-  then-run : (ts : List Token) {a : A} {us ws : List Token} {xs : List A} → read ts ≡ ok a us → Run read nameOf us xs ws → Run read nameOf ts (a ∷ xs) ws
+  then-run : (ts : List Token) {a : A} {us ws : List Token} {xs : List A} → read ts ≡ ok a us → ItemRun read nameOf us xs ws → ItemRun read nameOf ts (a ∷ xs) ws
   then-run ts {a} {us} e r =
       let x = lays ts a us e in
       rw (x .is) (item (x .a-name) refl (ap read (sym (x .is)) ∙ e) (run-over (x .plain) r))
 
-  pub row-run : (xs : List A) (ts : List Token) {ws : List Token} → row plain (commas rightRound) read ts ≡ ok xs ws → Run read nameOf ts xs ws
+  pub row-run : (xs : List A) (ts : List Token) {ws : List Token} → row plain (commas rightRound) read ts ≡ ok xs ws → ItemRun read nameOf ts xs ws
   row-run [] ts e = none (row-ok rightRound read small ts e)
     where
-      none : {ws : List Token} → Rowed rightRound read ts ws [] → Run read nameOf ts [] ws
+      none : {ws : List Token} → Rowed rightRound read ts ws [] → ItemRun read nameOf ts [] ws
       none r = elim r [ ]
   row-run (x ∷ xs) ts {ws} e = go (row-ok rightRound read small ts e) refl (λ us f. row-run xs us f)
     where
-      go : {ys : List A} → Rowed rightRound read ts ws ys → ys ≡ x ∷ xs → ((us : List Token) → row plain (commas rightRound) read us ≡ ok xs ws → Run read nameOf us xs ws) → Run read nameOf ts ys ws
+      go : {ys : List A} → Rowed rightRound read ts ws ys → ys ≡ x ∷ xs → ((us : List Token) → row plain (commas rightRound) read us ≡ ok xs ws → ItemRun read nameOf us xs ws) → ItemRun read nameOf ts ys ws
       go (last {c = c} f k) q r = then-run ts f (pass (plain-of c rightRound k (λ h. omega arith) (λ h. omega arith) (λ h. omega arith)) stop)
       go (next {c = c} {us = us} {xs = zs} f k g) q r =
           let z : zs ≡ xs = cc in
@@ -105,12 +105,12 @@ stops-end [] h = record { before = refl; after = refl }
 stops-end (t ∷ us) h = stops-at fragment t us h
 
 module _ {A : Type 0} {read : Reader A} {nameOf : A → Token} (s : ℕ) (other : s ≡ aName → ⊥) (plain-not : (t : Token) → Plain t → symOf t ≡ s → ⊥) where
-  pub run-from : {ts us : List Token} {xs : List A} → Run read nameOf ts xs us → onFrom s ts ≡ onFrom s us
+  pub run-from : {ts us : List Token} {xs : List A} → ItemRun read nameOf ts xs us → onFrom s ts ≡ onFrom s us
   run-from stop = refl
   run-from (pass {t = t} {ts = ts} h r) = from-over s t ts (ne-eqb (symOf t) s (plain-not t h)) ∙ run-from r
   run-from (item {t = t} {ts = ts} h n d r) = from-over s t ts (ne-eqb (symOf t) s (λ z. other (sym z ∙ h))) ∙ run-from r
 
-  pub run-names : {ts us : List Token} {xs : List A} → Run read nameOf ts xs us → Stops s us → those (isA aName) (upto s ts) ≡ map nameOf xs
+  pub run-names : {ts us : List Token} {xs : List A} → ItemRun read nameOf ts xs us → Stops s us → those (isA aName) (upto s ts) ≡ map nameOf xs
   unfolding those
   run-names stop e = ap (those (isA aName)) (e .before)
   run-names (pass {t = t} {ts = ts} h r) e =
@@ -129,8 +129,8 @@ pub record Laid (b : ℕ) (ts : List Token) (h : Header) (us : List Token) : Typ
   pub is : ts ≡ h .keyword ∷ h .name ∷ left
   pub a-name : symOf (h .name) ≡ aName
   pub an-arrow : symOf sign ≡ arrow
-  pub the-params : Run (param b) (λ (p : Param). p .name) left (h .params) (sign ∷ given)
-  pub the-results : Run (result b) (λ (r : Result). r .name) given (h .results) us
+  pub the-params : ItemRun (param b) (λ (p : Param). p .name) left (h .params) (sign ∷ given)
+  pub the-results : ItemRun (result b) (λ (r : Result). r .name) given (h .results) us
 
 round-plain : (t : Token) → symOf t ≡ leftRound → Plain t
 round-plain t h = plain-of t leftRound h (λ h. omega arith) (λ h. omega arith) (λ h. omega arith)

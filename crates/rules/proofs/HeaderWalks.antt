@@ -7,7 +7,7 @@ use native.Mathlib.Nat.{add-zero}
 use native.Mathlib.Omega.{arith}
 use lib.ListN.{length, getD, take, set}
 use lib.Seq.{sets, length-sets, take-set-le}
-use Rattle.lexis.specs.Sizes.{tableWords}
+use Rattle.lexis.specs.Sizes.{scratchStart}
 use Rattle.lexis.specs.Lexer.{Token}
 use Rattle.syntax.specs.Symbol.{fragment}
 use Rattle.syntax.specs.Tree.{Header}
@@ -15,7 +15,7 @@ use Rattle.syntax.specs.Parser.{header, operations}
 use Rattle.syntax.specs.Parser.Parse.{ok}
 use Rattle.syntax.specs.Table.{tokenAt, toks}
 use Rattle.syntax.proofs.Table.{toks-none, toks-more}
-use Rattle.rules.specs.Lists.{onFrom, tableOf, Heads, no-head, a-head, Places, HasList, Directory}
+use Rattle.rules.specs.Lists.{onFrom, tableOf, Heads, no-head, a-head, NamePlaces, HasList, Directory}
 use Rattle.rules.proofs.HeaderParses.{IsList, no-header, a-header, list-ok, list-ends}
 use Rattle.rules.proofs.Own.{next-there, name-within}
 
@@ -37,10 +37,10 @@ snoc-length : (ws : List ℕ) (v : ℕ) → length (ws ++ (v ∷ [])) ≡ length
 snoc-length [] v = omega arith
 snoc-length (w ∷ ws) v = let e = snoc-length ws v in omega arith
 
-places-snoc : (n : ℕ) (ws : List ℕ) (q : ℕ) → q < n → 0 < q → Places n ws → Places n (ws ++ (q ∷ []))
+places-snoc : (n : ℕ) (ws : List ℕ) (q : ℕ) → q < n → 0 < q → NamePlaces n ws → NamePlaces n (ws ++ (q ∷ []))
 places-snoc n ws q a b p = record { below = λ i h. go ws p i h }
   where
-    go : (vs : List ℕ) → Places n vs → (i : ℕ) → i < length (vs ++ (q ∷ [])) → (getD (vs ++ (q ∷ [])) i 0 < n) × (0 < getD (vs ++ (q ∷ [])) i 0)
+    go : (vs : List ℕ) → NamePlaces n vs → (i : ℕ) → i < length (vs ++ (q ∷ [])) → (getD (vs ++ (q ∷ [])) i 0 < n) × (0 < getD (vs ++ (q ∷ [])) i 0)
     go [] p zero h = (a, b)
     go [] p (suc i) h = absurd (omega arith)
     go (v ∷ vs) p zero h = p .below 0 (omega arith)
@@ -77,9 +77,9 @@ module _ (text before : List ℕ) (n : ℕ) where
 
   pub record Walked (work : List ℕ) (at k : ℕ) : Type 0 where
     pub words : List ℕ
-    pub stored : work ≡ sets before tableWords words
+    pub stored : work ≡ sets before scratchStart words
     pub count : length words ≡ k
-    pub places : Places n words
+    pub places : NamePlaces n words
     pub heads : (b : ℕ) (hs : List Header) → operations b (toks text (tableOf before) n 0) ≡ ok hs [] → Joined b at words hs
 
   pub walk-start : Walked before 0 0
@@ -92,11 +92,11 @@ module _ (text before : List ℕ) (n : ℕ) where
   }
 
   pub walk-length : {work : List ℕ} {at k : ℕ} → Walked work at k → length work ≡ length before
-  walk-length w = ap (λ (l : List ℕ). length l) (w .stored) ∙ length-sets before tableWords (w .words)
+  walk-length w = ap (λ (l : List ℕ). length l) (w .stored) ∙ length-sets before scratchStart (w .words)
 
   -- the table stays, with one more word too
-  pub walk-kept : {work : List ℕ} {at k : ℕ} (v : ℕ) → Walked work at k → tableOf (set work (tableWords + k) v) ≡ tableOf before
-  walk-kept {work} {at} {k} v w = take-set-le tableWords work (tableWords + k) v (omega arith) ∙ ap tableOf (w .stored) ∙ take-sets tableWords before tableWords (w .words) (omega arith)
+  pub walk-kept : {work : List ℕ} {at k : ℕ} (v : ℕ) → Walked work at k → tableOf (set work (scratchStart + k) v) ≡ tableOf before
+  walk-kept {work} {at} {k} v w = take-set-le scratchStart work (scratchStart + k) v (omega arith) ∙ ap tableOf (w .stored) ∙ take-sets scratchStart before scratchStart (w .words) (omega arith)
 
   module _ {at : ℕ} (l : at < n) where
     -- a header stands at the place
@@ -117,11 +117,11 @@ module _ (text before : List ℕ) (n : ℕ) where
         name-within text (tableOf before) n (g .brackets) (at + 1) (omega arith) (read-there x) (list-ends (x .more))
 
     pub walk-next : {work : List ℕ} {k r : ℕ} → at + 1 < n → toks text (tableOf before) n r ≡ onFrom fragment (toks text (tableOf before) n (at + 1)) → Walked work at k
-        → Walked (set work (tableWords + k) (at + 1)) r (k + 1)
+        → Walked (set work (scratchStart + k) (at + 1)) r (k + 1)
     walk-next {work} {k} {r} m e w = record {
       words = w .words ++ ((at + 1) ∷ []);
       stored =
-          ap₂ (λ (l : List ℕ) (i : ℕ). set l (tableWords + i) (at + 1)) (w .stored) (sym (w .count)) ∙ sets-snoc before tableWords (w .words) (at + 1);
+          ap₂ (λ (l : List ℕ) (i : ℕ). set l (scratchStart + i) (at + 1)) (w .stored) (sym (w .count)) ∙ sets-snoc before scratchStart (w .words) (at + 1);
       count = snoc-length (w .words) (at + 1) ∙ ap (λ (i : ℕ). i + 1) (w .count);
       places = places-snoc n (w .words) (at + 1) m (omega arith) (w .places);
       heads = λ b hs o.

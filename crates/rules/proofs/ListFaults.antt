@@ -8,7 +8,7 @@ use Rattle.syntax.specs.Tree.{Result, Header}
 use Rattle.rules.specs.Fault.{Fault, faults, starts, earlier, first}
 use Rattle.rules.specs.Names.{repeats}
 use Rattle.rules.specs.ListRules.{over, paramNames, headerNames, listCounts, listRepeats, badDefaults, listFaults}
-use Rattle.rules.specs.Lists.{defaultFaults, ownFaults}
+use Rattle.rules.specs.Lists.{defaultFaults, headerFaults}
 use Rattle.rules.proofs.First.{first-append, earlier-assoc, earlier-comm}
 
 -- two in the middle of four change places
@@ -38,9 +38,9 @@ abbrev pub misfitsOf : Header → List Fault
 misfitsOf h = defaultFaults (h .params)
 
 -- a header's own faults, one kind after the other
-pub own-parts : (h : Header) → first (ownFaults h)
+pub own-parts : (h : Header) → first (headerFaults h)
     ≡ earlier (earlier (earlier (first (over maxParameters (starts (paramNames (h .params))))) (first (over maxResults (starts (map (λ (r : Result). r .name) (h .results)))))) (first (faults 13 (starts (repeats (headerNames h)))))) (first (defaultFaults (h .params)))
-unfolding ownFaults flatten first
+unfolding headerFaults flatten first
 own-parts h =
     let a = over maxParameters (starts (paramNames (h .params))) in
     let b = over maxResults (starts (map (λ (r : Result). r .name) (h .results))) in
@@ -51,27 +51,27 @@ own-parts h =
     ∙ sym (earlier-assoc (first a) (first b) (earlier (first c) (first d)))
     ∙ sym (earlier-assoc (earlier (first a) (first b)) (first c) (first d))
 
-own-flat : (h : Header) → ownFaults h ≡ countsOf h ++ (repeatsOf h ++ misfitsOf h)
-unfolding ownFaults flatten
+own-flat : (h : Header) → headerFaults h ≡ countsOf h ++ (repeatsOf h ++ misfitsOf h)
+unfolding headerFaults flatten
 own-flat h =
     let a = over maxParameters (starts (paramNames (h .params))) in
     let b = over maxResults (starts (map (λ (r : Result). r .name) (h .results))) in
     ap (λ (x : List Fault). a ++ (b ++ (repeatsOf h ++ x))) (append-nil (misfitsOf h)) ∙ sym (append-assoc a b (repeatsOf h ++ misfitsOf h))
 
-own-all : (hs : List Header) → first (flatMap ownFaults hs) ≡ earlier (first (flatMap countsOf hs)) (earlier (first (flatMap repeatsOf hs)) (first (flatMap misfitsOf hs)))
+own-all : (hs : List Header) → first (flatMap headerFaults hs) ≡ earlier (first (flatMap countsOf hs)) (earlier (first (flatMap repeatsOf hs)) (first (flatMap misfitsOf hs)))
 unfolding flatMap
 own-all hs =
     ap (λ (xs : List Fault). first xs) (same hs)
     ∙ flat-two countsOf (λ h. repeatsOf h ++ misfitsOf h) hs
     ∙ ap (earlier (first (flatMap countsOf hs))) (flat-two repeatsOf misfitsOf hs)
   where
-    same : (gs : List Header) → flatMap ownFaults gs ≡ flatMap (λ h. countsOf h ++ (repeatsOf h ++ misfitsOf h)) gs
+    same : (gs : List Header) → flatMap headerFaults gs ≡ flatMap (λ h. countsOf h ++ (repeatsOf h ++ misfitsOf h)) gs
     same [] = refl
     same (g ∷ gs) = ap₂ (λ (x y : List Fault). x ++ y) (own-flat g) (same gs)
 
 -- the first fault of a list, as the code meets them
 pub list-parts : (hs : List Header) → first (listFaults hs)
-    ≡ earlier (first (over maxOperations (map (λ (h : Header). h .keyword .start) hs))) (earlier (first (faults 13 (starts (repeats (map (λ (h : Header). h .name) hs))))) (first (flatMap ownFaults hs)))
+    ≡ earlier (first (over maxOperations (map (λ (h : Header). h .keyword .start) hs))) (earlier (first (faults 13 (starts (repeats (map (λ (h : Header). h .name) hs))))) (first (flatMap headerFaults hs)))
 unfolding listFaults listCounts listRepeats badDefaults flatten
 list-parts hs =
     let a = over maxOperations (map (λ (h : Header). h .keyword .start) hs) in

@@ -11,9 +11,9 @@ use native.Mathlib.Omega.{arith}
 use lib.ListN.{length, take, drop}
 use lib.Seq.{sets-eq, length-sets, take-at, drop-at, length-take-le}
 use borrow.Author.Tests.{ne-eqb}
-use Rattle.lexis.specs.Sizes.{maxTokens, tokenWords, tableWords, workWords, maxBrackets}
+use Rattle.lexis.specs.Sizes.{maxTokens, recordWords, scratchStart, workWords, maxBrackets}
 use Rattle.lexis.specs.Lexer.{Token, Lexed, accepted, refused, lex}
-use Rattle.lexis.specs.Answer.{Written, Room, answer}
+use Rattle.lexis.specs.Answer.{Recorded, Room, answer}
 use Rattle.lexis.specs.Answer as LA
 use Rattle.lexis.specs.declared.Answer.{Answer}
 use Rattle.lexis.specs.declared.Counted.{Counted}
@@ -31,7 +31,7 @@ use Rattle.rules.specs.Best.{faultOf, meant}
 use Rattle.rules.specs.ListRules.{listFaults}
 use Rattle.rules.specs.Lists.{tableOf, Heads, no-head, a-head, Directory}
 use Rattle.rules.specs.Answer.{stop, andThen, bytesStage, syntaxStage, rulesStage, listStages}
-use Rattle.rules.specs.Stages.{ListRead, namesOf, ListPassed, ListDone}
+use Rattle.rules.specs.Stages.{ListRead, directoryOf, ListPassed, ListDone}
 use Rattle.rules.specs.declared.best.Best.{Best}
 use Rattle.rules.specs.declared.list.Listed.{Listed}
 use Rattle.rules.specs.declared.list.Listed.the-variants.{Passed, Stopped}
@@ -41,7 +41,7 @@ use Rattle.rules.proofs.Front.{toks-front, front-holds, whole-holds, wh
 
 -- what reading n tokens says of the list
 module _ (text before after : List ℕ) (n : ℕ) (small : n ≤ maxTokens) (large : workWords ≤ length after) where
-  read-by : (l : Lexed) → lex text ≡ l → C.Tokens n ≡ readAfter S.List (length text) l → Written l before after → n * tokenWords ≤ length before → ListRead text after n
+  read-by : (l : Lexed) → lex text ≡ l → C.Tokens n ≡ readAfter S.List (length text) l → Recorded l before after → n * recordWords ≤ length before → ListRead text after n
   unfolding listStages
   read-by (refused c p) e h w r = let z : _≡_ {A = ℕ} 0 1 = cc in absurd (omega arith)
   read-by (accepted ts) e h w r = go (parseList ts) refl h
@@ -50,21 +50,21 @@ module _ (text before after : List ℕ) (n : ℕ) (small : n ≤ maxTokens) (lar
       go (bad c us) q k = let z : _≡_ {A = ℕ} 0 1 = cc in absurd (omega arith)
       go (ok hs us) q k =
           let m : n ≡ length ts = cc in
-          let g = got text before after (C.Tokens n) n (ap C.Tokens (m ∙ sym (zero-add (length ts))) ∙ ap LA.counted (sym e)) (subst (λ (l : Lexed). Written l before after) (sym e) w) (small, r) refl in
+          let g = got text before after (C.Tokens n) n (ap C.Tokens (m ∙ sym (zero-add (length ts))) ∙ ap LA.counted (sym e)) (subst (λ (l : Lexed). Recorded l before after) (sym e) w) (small, r) refl in
           let same : g .tokens ≡ ts = let y = sym (g .is) ∙ e in cc in
-          let d : toks text (tableOf after) n 0 ≡ ts = toks-front text after tableWords n (omega arith) 0 ∙ g .decoded ∙ same in
+          let d : toks text (tableOf after) n 0 ≡ ts = toks-front text after scratchStart n (omega arith) 0 ∙ g .decoded ∙ same in
           let none : us ≡ [] = list-all-read maxBrackets ts hs us q in
           record {
             headers = hs;
             lexed = e ∙ ap accepted (sym d);
-            table = front-holds text after tableWords n (omega arith) (omega arith) (g .table);
+            table = front-holds text after scratchStart n (omega arith) (omega arith) (g .table);
             parsed = ap parseList d ∙ q ∙ ap (λ (x : List Token). ok hs x) none;
             stages =
                 ap (λ (l : Lexed). andThen (bytesStage 1 l) (λ xs. andThen (syntaxStage 1 text (parseList xs)) (λ ys. rulesStage 1 ys (first (listFaults ys))))) e
                 ∙ ap (λ (x : Parse (List Header)). andThen (syntaxStage 1 text x) (λ ys. rulesStage 1 ys (first (listFaults ys)))) q;
           }
 
-  pub read-list : {x : Counted} → x ≡ readOf S.List text → x ≡ C.Tokens n → Written (lex text) before after → Room x (length before) → ListRead text after n
+  pub read-list : {x : Counted} → x ≡ readOf S.List text → x ≡ C.Tokens n → Recorded (lex text) before after → Room x (length before) → ListRead text after n
   read-list {x} h e w r = read-by (lex text) refl (sym e ∙ h) w (subst (λ (y : Counted). Room y (length before)) e r .1)
 
 -- a fault of the bytes or the syntax stops the stages
@@ -82,7 +82,7 @@ read-stops text {c} {p} h e = go (lex text) (sym e ∙ h)
     go (accepted ts) k = parses ts (parseList ts) k
 
 -- the work area keeps its length
-pub written-length : (l : Lexed) (before after : List ℕ) → Written l before after → length after ≡ length before
+pub written-length : (l : Lexed) (before after : List ℕ) → Recorded l before after → length after ≡ length before
 written-length (accepted ts) before after h = ap (λ (x : List ℕ). length x) h ∙ length-sets before 0 (LA.records ts)
 written-length (refused c p) before after h = h
 
@@ -93,33 +93,33 @@ heads-length no-head = refl
 heads-length (a-head r e h) = ap suc (heads-length h)
 
 module _ {text before after : List ℕ} {n k : ℕ} (small : n ≤ maxTokens) (large : workWords ≤ length before) (dir : Directory text before after n k) where
-  cut : after ≡ take tableWords before ++ (dir .words ++ drop (tableWords + length (dir .words)) before)
-  cut = let c = dir .count in let f = dir .few in dir .stored ∙ sets-eq (dir .words) before tableWords (omega arith) ∙ append-assoc (take tableWords before) (dir .words) (drop (tableWords + length (dir .words)) before)
+  cut : after ≡ take scratchStart before ++ (dir .words ++ drop (scratchStart + length (dir .words)) before)
+  cut = let c = dir .count in let f = dir .few in dir .stored ∙ sets-eq (dir .words) before scratchStart (omega arith) ∙ append-assoc (take scratchStart before) (dir .words) (drop (scratchStart + length (dir .words)) before)
 
-  front-length : length (take tableWords before) ≡ tableWords
-  front-length = length-take-le tableWords before (omega arith)
+  front-length : length (take scratchStart before) ≡ scratchStart
+  front-length = length-take-le scratchStart before (omega arith)
 
   pub same-table : tableOf after ≡ tableOf before
-  same-table = ap tableOf cut ∙ take-at (take tableWords before) (dir .words ++ drop (tableWords + length (dir .words)) before) tableWords front-length
+  same-table = ap tableOf cut ∙ take-at (take scratchStart before) (dir .words ++ drop (scratchStart + length (dir .words)) before) scratchStart front-length
 
-  pub same-names : namesOf after k ≡ dir .words
+  pub same-names : directoryOf after k ≡ dir .words
   same-names =
-      ap (namesOf after) (sym (dir .count))
-      ∙ ap (λ (x : List ℕ). take (length (dir .words)) (drop tableWords x)) cut
-      ∙ ap (take (length (dir .words))) (drop-at (take tableWords before) (dir .words ++ drop (tableWords + length (dir .words)) before) tableWords front-length)
-      ∙ take-at (dir .words) (drop (tableWords + length (dir .words)) before) (length (dir .words)) refl
+      ap (directoryOf after) (sym (dir .count))
+      ∙ ap (λ (x : List ℕ). take (length (dir .words)) (drop scratchStart x)) cut
+      ∙ ap (take (length (dir .words))) (drop-at (take scratchStart before) (dir .words ++ drop (scratchStart + length (dir .words)) before) scratchStart front-length)
+      ∙ take-at (dir .words) (drop (scratchStart + length (dir .words)) before) (length (dir .words)) refl
 
-  pub part-names : take (tableWords + k - tableWords) (drop tableWords after) ≡ dir .words
-  part-names = let e : tableWords + k - tableWords ≡ k = omega arith in ap (λ (m : ℕ). take m (drop tableWords after)) e ∙ same-names
+  pub part-names : take (scratchStart + k - scratchStart) (drop scratchStart after) ≡ dir .words
+  part-names = let e : scratchStart + k - scratchStart ≡ k = omega arith in ap (λ (m : ℕ). take m (drop scratchStart after)) e ∙ same-names
 
   pub same-size : length after ≡ length before
-  same-size = ap (λ (x : List ℕ). length x) (dir .stored) ∙ length-sets before tableWords (dir .words)
+  same-size = ap (λ (x : List ℕ). length x) (dir .stored) ∙ length-sets before scratchStart (dir .words)
 
   module _ (list : ListRead text before n) where
     heads-are : Heads text (tableOf before) n maxBrackets (dir .words) (list .headers)
     heads-are = dir .heads maxBrackets (list .headers) (list .parsed)
 
-    module _ (best : Best) (rules : (hs : List Header) → Heads text (tableOf after) n maxBrackets (take (tableWords + k - tableWords) (drop tableWords after)) hs → meant best ≡ first (listFaults hs)) where
+    module _ (best : Best) (rules : (hs : List Header) → Heads text (tableOf after) n maxBrackets (take (scratchStart + k - scratchStart) (drop scratchStart after)) hs → meant best ≡ first (listFaults hs)) where
       found-is : meant best ≡ first (listFaults (list .headers))
       found-is = rules (list .headers) (rw (same-table, part-names) heads-are)
 
@@ -127,8 +127,8 @@ module _ {text before after : List ℕ} {n k : ℕ} (small : n ≤ maxTokens) (l
       unfolding meant
       rules-pass z =
           let m : nothing ≡ first (listFaults (list .headers)) = rw z at found-is in
-          let fit : n * tokenWords ≤ tableWords = omega arith in
-          let whole : toks text (tableOf before) n 0 ≡ toks text after n 0 = ap (λ (x : List ℕ). toks text x n 0) (sym same-table) ∙ toks-front text after tableWords n fit 0 in
+          let fit : n * recordWords ≤ scratchStart = omega arith in
+          let whole : toks text (tableOf before) n 0 ≡ toks text after n 0 = ap (λ (x : List ℕ). toks text x n 0) (sym same-table) ∙ toks-front text after scratchStart n fit 0 in
           record {
             headers = list .headers;
             stages = list .stages ∙ ap (rulesStage 1 (list .headers)) (sym m);
@@ -136,10 +136,10 @@ module _ {text before after : List ℕ} {n k : ℕ} (small : n ≤ maxTokens) (l
             small = small;
             few = dir .few;
             lexed = list .lexed ∙ ap accepted whole;
-            table = whole-holds text after tableWords n fit (rw same-table (list .table));
+            table = whole-holds text after scratchStart n fit (rw same-table (list .table));
             parsed = ap parseList (sym whole) ∙ list .parsed;
             places = rw same-names (dir .places);
-            heads = whole-heads text after tableWords n fit (rw (same-table, same-names) heads-are);
+            heads = whole-heads text after scratchStart n fit (rw (same-table, same-names) heads-are);
           }
 
       pub rules-stop : (best .code ≡ 0 → ⊥) → listStages text ≡ stop (answer (best .code) 1 (best .at) (best .detail))

@@ -10,7 +10,7 @@ use lib.Dec.{eqb}
 use lib.ListN.{length, length-append}
 use Rattle.lexis.specs.Lexer.{Token}
 use Rattle.rules.specs.Fault.{Fault, fault, earlier, first}
-use Rattle.rules.specs.Walks.{when, Rule, scan, both}
+use Rattle.rules.specs.Walks.{when, Rule, scan, bothRules}
 use Rattle.rules.proofs.First.{first-append, earlier-none}
 use Rattle.rules.proofs.Rules.{scan-one}
 
@@ -36,7 +36,7 @@ module _ (ss : List Token) {k : ℕ} (e : k ≡ length ss) where
 
 -- ---- rules made of others
 
-pub two : (f g : Rule) (ss : List Token) (t : Token) {a b r : Option Fault} → a ≡ first (f ss t) → b ≡ first (g ss t) → r ≡ earlier a b → r ≡ first (both f g ss t)
+pub two : (f g : Rule) (ss : List Token) (t : Token) {a b r : Option Fault} → a ≡ first (f ss t) → b ≡ first (g ss t) → r ≡ earlier a b → r ≡ first (bothRules f g ss t)
 two f g ss t p q e = e ∙ ap₂ earlier p q ∙ sym (first-append (f ss t) (g ss t))
 
 -- a fault by a test, of the same test and place

@@ -18,7 +18,7 @@ use Rattle.syntax.proofs.Table.{toks-more, toks-length, toks-rest}
 use Rattle.rules.specs.Fault.{Fault, faults, starts, earlier, first}
 use Rattle.rules.specs.Names.{those, repeats}
 use Rattle.rules.specs.ListRules.{over, paramNames, headerNames}
-use Rattle.rules.specs.Lists.{isA, upto, onFrom, Run, defaultFaults, ownFaults, endsHeader}
+use Rattle.rules.specs.Lists.{isA, upto, onFrom, ItemRun, defaultFaults, headerFaults, endsHeader}
 use Rattle.rules.proofs.HeaderScans.{those-append, upto-over, from-over}
 use Rattle.rules.proofs.HeaderLayout.{Laid, header-laid, Stops, stops-at, stops-end, run-from, run-names, name-out, arrow-not, word-not}
 use Rattle.rules.proofs.HeaderParses.{cons-head}
@@ -92,7 +92,7 @@ module _ (text table : List ℕ) (n b q : ℕ) (positive : 0 < q) {h : Header} {
             ∙ those-append (isA aName) (toks text table a (q + 1)) (toks text table e a)
             ∙ ap₂ (λ (x y : List Token). x ++ y) params-are results-are
 
-        pub params-run : Run (param b) (λ (p : Param). p .name) (toks text table n (q + 1)) (h .params) (toks text table n a)
+        pub params-run : ItemRun (param b) (λ (p : Param). p .name) (toks text table n (q + 1)) (h .params) (toks text table n a)
         params-run = rw (behind, arrow-is) (laid .the-params)
 
         -- the four faults together
@@ -101,7 +101,7 @@ module _ (text table : List ℕ) (n b q : ℕ) (positive : 0 < q) {h : Header} {
             → x ≡ first (over maxResults (starts (those (isA aName) (toks text table e a))))
             → y ≡ first (faults 13 (starts (repeats (those (isA aName) (toks text table e (q + 1))))))
             → z ≡ first (defaultFaults (h .params))
-            → earlier (earlier (earlier w x) y) z ≡ first (ownFaults h)
+            → earlier (earlier (earlier w x) y) z ≡ first (headerFaults h)
         own-is p r s t =
             ap₂ earlier
             (ap₂ earlier

@@ -12,7 +12,7 @@ use Rattle.lexis.specs.Lexer.{Token}
 use Rattle.rules.specs.Fault.{Fault, fault, faults, starts, earlier, first}
 use Rattle.rules.specs.Names.{those, isAmong, repeatsAfter}
 use Rattle.rules.specs.ListRules.{over}
-use Rattle.rules.specs.Walks.{when, Rule, scan, passing, repeating, beyond, both}
+use Rattle.rules.specs.Walks.{when, Rule, scan, passing, repeating, beyond, bothRules}
 use Rattle.rules.proofs.First.{first-append, earlier-assoc, earlier-comm}
 
 -- ---- sums of faults
@@ -40,12 +40,12 @@ pub scan-one : (f : Rule) (ss : List Token) (t : Token) → scan f ss (t ∷ [])
 unfolding scan
 scan-one f ss t = append-nil (f ss t)
 
-pub first-both : (f g : Rule) (ss ts : List Token) → first (scan (both f g) ss ts) ≡ earlier (first (scan f ss ts)) (first (scan g ss ts))
+pub first-both : (f g : Rule) (ss ts : List Token) → first (scan (bothRules f g) ss ts) ≡ earlier (first (scan f ss ts)) (first (scan g ss ts))
 unfolding scan first
 first-both f g ss [] = refl
 first-both f g ss (t ∷ ts) =
     let us = ss ++ (t ∷ []) in
-    first-append (f ss t ++ g ss t) (scan (both f g) us ts)
+    first-append (f ss t ++ g ss t) (scan (bothRules f g) us ts)
     ∙ ap₂ earlier (first-append (f ss t) (g ss t)) (first-both f g us ts)
     ∙ interchange (first (f ss t)) (first (g ss t)) (first (scan f us ts)) (first (scan g us ts))
     ∙ ap₂ earlier (sym (first-append (f ss t) (scan f us ts))) (sym (first-append (g ss t) (scan g us ts)))

@@ -21,7 +21,7 @@ use Rattle.syntax.specs.Table.{startAt, tokenAt, toks}
 use Rattle.rules.specs.Fault.{Fault, fault, faults, starts, earlier, first}
 use Rattle.rules.specs.Names.{isAmong, repeatsAfter}
 use Rattle.rules.specs.ListRules.{over, listFaults}
-use Rattle.rules.specs.Lists.{endsHeader, ownFaults, Heads, no-head, a-head, Places, entries}
+use Rattle.rules.specs.Lists.{endsHeader, headerFaults, Heads, no-head, a-head, NamePlaces, entries}
 use Rattle.rules.proofs.First.{first-append, earlier-none, earlier-assoc}
 use Rattle.rules.proofs.HeaderScans.{repeatsIn, repeats-append, first-at, map-append}
 use Rattle.rules.proofs.ListFaults.{swap, list-parts}
@@ -52,7 +52,7 @@ pub repeat-some : (ss : List Token) (t : Token) → isAmong ss t ≡ true → so
 unfolding repeatsAfter first
 repeat-some ss t h = simp h
 
-pub places-take : (n k : ℕ) (qs : List ℕ) → k ≤ length qs → Places n qs → Places n (take k qs)
+pub places-take : (n k : ℕ) (qs : List ℕ) → k ≤ length qs → NamePlaces n qs → NamePlaces n (take k qs)
 places-take n k qs h p = record {
   below = λ i l.
       let e = length-take-le k qs h in
@@ -95,9 +95,9 @@ module _ (text table : List ℕ) (n : ℕ) (names : List ℕ) where
   pub record Ruling (k : ℕ) (all best : Option Fault) : Type 0 where
     pub ahead : List Header
     pub heads : Heads text table n maxBrackets (drop k names) ahead
-    pub so-far : all ≡ earlier best (earlier (repeatsOn k) (first (flatMap ownFaults ahead)))
+    pub so-far : all ≡ earlier best (earlier (repeatsOn k) (first (flatMap headerFaults ahead)))
 
-  pub rule-start : {best : Option Fault} {hs : List Header} → Places n names → Heads text table n maxBrackets names hs
+  pub rule-start : {best : Option Fault} {hs : List Header} → NamePlaces n names → Heads text table n maxBrackets names hs
       → best ≡ first (over maxOperations (map (λ q. startAt table (q - 1)) names)) → Ruling 0 (first (listFaults hs)) best
   rule-start {best} {hs} p h e = record {
     ahead = hs;
@@ -105,7 +105,7 @@ module _ (text table : List ℕ) (n : ℕ) (names : List ℕ) where
     so-far =
         list-parts hs
         ∙ ap₂ earlier (ap (λ (x : List ℕ). first (over maxOperations x)) (sym (heads-words text table n maxBrackets p h)) ∙ sym e)
-        (ap (λ (x : List Token). earlier (repeatsIn [] x) (first (flatMap ownFaults hs))) (sym (heads-names text table n maxBrackets p h)));
+        (ap (λ (x : List Token). earlier (repeatsIn [] x) (first (flatMap headerFaults hs))) (sym (heads-names text table n maxBrackets p h)));
   }
 
   module _ (k : ℕ) (l : k < length names) where
@@ -128,12 +128,12 @@ module _ (text table : List ℕ) (n : ℕ) (names : List ℕ) where
         ∙ ap (λ (x : List Token). earlier (repeatsIn ss (here ∷ [])) (repeatsIn x us)) (sym passed-is)
 
     pub rule-next : {all best again own : Option Fault} → again ≡ repeatsIn (entries text table (take k names)) (tokenAt text table (getD names k 0) ∷ [])
-        → ((h : Header) (us : List Token) → header maxBrackets (toks text table n (getD names k 0 - 1)) ≡ ok h us → endsHeader us → own ≡ first (ownFaults h))
+        → ((h : Header) (us : List Token) → header maxBrackets (toks text table n (getD names k 0 - 1)) ≡ ok h us → endsHeader us → own ≡ first (headerFaults h))
         → Ruling k all best → Ruling (k + 1) all (earlier best (earlier again own))
     unfolding flatMap
     rule-next {all} {best} {again} {own} a o r =
         let f = first-head text table n (r .heads) (getD names k 0) (drop (k + 1) names) ahead-is in
-        let rest = first (flatMap ownFaults (f .others)) in
+        let rest = first (flatMap headerFaults (f .others)) in
         record {
           ahead = f .others;
           heads = f .more;
@@ -141,7 +141,7 @@ module _ (text table : List ℕ) (n : ℕ) (names : List ℕ) where
               r .so-far
               ∙ ap (earlier best)
               (ap₂ earlier (repeats-on ∙ ap (λ (x : Option Fault). earlier x (repeatsOn (k + 1))) (sym a))
-              (ap (λ (x : List Header). first (flatMap ownFaults x)) (f .is) ∙ first-append (ownFaults (f .head)) (flatMap ownFaults (f .others)) ∙ ap (λ (x : Option Fault). earlier x rest) (sym (o (f .head) (f .left) (f .read) (f .ends))))
+              (ap (λ (x : List Header). first (flatMap headerFaults x)) (f .is) ∙ first-append (headerFaults (f .head)) (flatMap headerFaults (f .others)) ∙ ap (λ (x : Option Fault). earlier x rest) (sym (o (f .head) (f .left) (f .read) (f .ends))))
               ∙ swap again (repeatsOn (k + 1)) own rest)
               ∙ sym (earlier-assoc best (earlier again own) (earlier (repeatsOn (k + 1)) rest));
         }
@@ -151,4 +151,4 @@ module _ (text table : List ℕ) (n : ℕ) (names : List ℕ) where
   rule-end k {all} {best} l r =
       let e = drop-of-length-le names l in
       let z = no-more text table n (r .heads) e in
-      sym (r .so-far ∙ ap₂ (λ (x : List ℕ) (y : List Header). earlier best (earlier (repeatsIn (entries text table (take k names)) (entries text table x)) (first (flatMap ownFaults y)))) e z ∙ earlier-none best)
+      sym (r .so-far ∙ ap₂ (λ (x : List ℕ) (y : List Header). earlier best (earlier (repeatsIn (entries text table (take k names)) (entries text table x)) (first (flatMap headerFaults y)))) e z ∙ earlier-none best)

@@ -25,7 +25,7 @@ use Rattle.rules.specs.DocumentRules.{documentFaults}
 use Rattle.rules.specs.Names.{used}
 use Rattle.rules.specs.Tables.{assigner}
 use Rattle.rules.specs.Wired.{AssignedBy}
-use Rattle.rules.specs.Answer.{Stage, pass, stop, Checked, andThen, guard, counted, listStages, documentStages, declared, declarationsAnswer, checked, checkAnswer, callsAfter, wiresAfter, workAfter}
+use Rattle.rules.specs.Answer.{Stage, pass, stop, Checked, andThen, guard, stageAnswer, listStages, documentStages, declared, declarationsAnswer, checked, checkAnswer, callsAfter, wiresAfter, workAfter}
 use Rattle.rules.specs.Accepted.{AcceptedList, AcceptedDocument}
 use Rattle.rules.proofs.First.{before-antisym, IsFirst, first-is, first-none}
 use Rattle.rules.proofs.Codes.{stage-codes}
@@ -77,11 +77,11 @@ pub declarations-accepted : (list : List ℕ) (work : ℕ) → declarationsAnswe
 unfolding declarationsAnswer declared
 declarations-accepted list work e = go (leb workWords work) (leb (length list) maxText) refl e
   where
-    by : length list ≤ maxText → (s : Stage (List Header)) → listStages list ≡ s → counted s length .code ≡ 0 → (hs : List Header) × AcceptedList list hs
+    by : length list ≤ maxText → (s : Stage (List Header)) → listStages list ≡ s → stageAnswer s length .code ≡ 0 → (hs : List Header) × AcceptedList list hs
     by l (pass hs) q e = (hs, list-passed list hs l q)
     by l (stop r) q e = absurd (omega (arith, stage-codes list r q))
 
-    go : (a b : Bool) → leb (length list) maxText ≡ b → counted (guard a (answer 1 0 0 0) (guard b (answer 2 1 maxText 0) (listStages list))) length .code ≡ 0 → (hs : List Header) × AcceptedList list hs
+    go : (a b : Bool) → leb (length list) maxText ≡ b → stageAnswer (guard a (answer 1 0 0 0) (guard b (answer 2 1 maxText 0) (listStages list))) length .code ≡ 0 → (hs : List Header) × AcceptedList list hs
     go false b q e = absurd (omega arith)
     go true false q e = absurd (omega arith)
     go true true q e = by (leb-true (length list) maxText q) (listStages list) refl e
@@ -117,16 +117,16 @@ unfolding checkAnswer checked
 check-accepted list doc work₁ work₂ calls wires e =
     go (leb workWords work₁ && (leb workWords work₂ && (leb callWords calls && leb wireWords wires))) (leb (length list) maxText) (leb (length doc) maxText) refl refl e
   where
-    second : (hs : List Header) → AcceptedList list hs → length doc ≤ maxText → (s : Stage Document) → documentStages hs doc ≡ s → counted (andThen {B = Checked} s (λ d. pass (record { headers = hs; document = d }))) (λ k. length (k .document .calls)) .code ≡ 0 → (hs : List Header) × ((d : Document) × (AcceptedList list hs × AcceptedDocument hs doc d))
+    second : (hs : List Header) → AcceptedList list hs → length doc ≤ maxText → (s : Stage Document) → documentStages hs doc ≡ s → stageAnswer (andThen {B = Checked} s (λ d. pass (record { headers = hs; document = d }))) (λ k. length (k .document .calls)) .code ≡ 0 → (hs : List Header) × ((d : Document) × (AcceptedList list hs × AcceptedDocument hs doc d))
     second hs a l (pass d) q e = (hs, (d, (a, document-passed hs doc d l q)))
     second hs a l (stop r) q e = absurd (omega (arith, document-codes hs doc r q))
 
-    first-text : length list ≤ maxText → length doc ≤ maxText → (s : Stage (List Header)) → listStages list ≡ s → counted (andThen {B = Checked} s (λ hs. andThen (documentStages hs doc) (λ d. pass (record { headers = hs; document = d })))) (λ k. length (k .document .calls)) .code ≡ 0 → (hs : List Header) × ((d : Document) × (AcceptedList list hs × AcceptedDocument hs doc d))
+    first-text : length list ≤ maxText → length doc ≤ maxText → (s : Stage (List Header)) → listStages list ≡ s → stageAnswer (andThen {B = Checked} s (λ hs. andThen (documentStages hs doc) (λ d. pass (record { headers = hs; document = d })))) (λ k. length (k .document .calls)) .code ≡ 0 → (hs : List Header) × ((d : Document) × (AcceptedList list hs × AcceptedDocument hs doc d))
     first-text m l (pass hs) q e = second hs (list-passed list hs m q) l (documentStages hs doc) refl e
     first-text m l (stop r) q e = absurd (omega (arith, stage-codes list r q))
 
     go : (a b c : Bool) → leb (length list) maxText ≡ b → leb (length doc) maxText ≡ c
-        → counted (guard a (answer 1 0 0 0) (guard b (answer 2 1 maxText 0) (guard c (answer 2 2 maxText 0) (andThen {B = Checked} (listStages list) (λ hs. andThen (documentStages hs doc) (λ d. pass (record { headers = hs; document = d }))))))) (λ k. length (k .document .calls)) .code ≡ 0 → (hs : List Header) × ((d : Document) × (AcceptedList list hs × AcceptedDocument hs doc d))
+        → stageAnswer (guard a (answer 1 0 0 0) (guard b (answer 2 1 maxText 0) (guard c (answer 2 2 maxText 0) (andThen {B = Checked} (listStages list) (λ hs. andThen (documentStages hs doc) (λ d. pass (record { headers = hs; document = d }))))))) (λ k. length (k .document .calls)) .code ≡ 0 → (hs : List Header) × ((d : Document) × (AcceptedList list hs × AcceptedDocument hs doc d))
     go false b c p q e = absurd (omega arith)
     go true false c p q e = absurd (omega arith)
     go true true false p q e = absurd (omega arith)
@@ -155,7 +155,7 @@ module _ (list doc : List ℕ) (work₁ work₂ calls wires : ℕ) (hs : List He
 -- ---- lent words
 
 -- a refusal by `check` leaves both tables as they were
-pub refusal-keeps : (s : Stage Checked) (calls wires : List ℕ) → (counted s (λ k. length (k .document .calls)) .code ≡ 0 → ⊥) → (callsAfter s calls ≡ calls) × (wiresAfter s wires ≡ wires)
+pub refusal-keeps : (s : Stage Checked) (calls wires : List ℕ) → (stageAnswer s (λ k. length (k .document .calls)) .code ≡ 0 → ⊥) → (callsAfter s calls ≡ calls) × (wiresAfter s wires ≡ wires)
 unfolding callsAfter wiresAfter
 refusal-keeps (pass k) calls wires n = absurd (n refl)
 refusal-keeps (stop r) calls wires n = (refl, refl)

@@ -15,7 +15,7 @@ use Rattle.rules.specs.Names.{those, isAmong, repeatsAfter, repeats, sta
 use Rattle.rules.specs.Reading.{allTensor}
 use Rattle.rules.specs.ListRules.{paramNames}
 use Rattle.rules.specs.Binding.{leading, labels, later, Slot, slotsFrom, slots, byName, taken, takesPlace, misplacedFrom, misplaced, misnamed, misfit, misfits, missing}
-use Rattle.rules.specs.Arguments.{isBound, bound, leads, passed}
+use Rattle.rules.specs.Arguments.{isBound, bound, leads, tallyFaults}
 use Rattle.rules.proofs.First.{earlier-assoc, earlier-comm, earlier-self, earlier-none, first-append}
 use Rattle.rules.proofs.Labels.{leading-named, leading-same, labels-named, labels-same, labels-none}
 use Rattle.rules.proofs.Sought.{None, Only, Nth, nth-takes}
@@ -151,11 +151,11 @@ misnamed-same ps xs v = go (leads xs) refl
 
 -- an argument x after xs adds the fault o, where there is one, and leaves the flags bs
 pub record Turned (ps : List Param) (xs : List Arg) (x : Arg) (o : Option Fault) (bs : List Bool) : Type 0 where
-  pub faulted : first (passed ps (xs ++ (x ∷ []))) ≡ earlier (first (passed ps xs)) o
+  pub faulted : first (tallyFaults ps (xs ++ (x ∷ []))) ≡ earlier (first (tallyFaults ps xs)) o
   pub flags : bound ps (xs ++ (x ∷ [])) ≡ bs
 
-passed-is : (ps : List Param) (xs : List Arg) → first (passed ps xs) ≡ earlier (first (misplaced ps xs)) (earlier (first (misnamed ps xs)) (first (misfits (slots ps xs))))
-unfolding passed
+passed-is : (ps : List Param) (xs : List Arg) → first (tallyFaults ps xs) ≡ earlier (first (misplaced ps xs)) (earlier (first (misnamed ps xs)) (first (misfits (slots ps xs))))
+unfolding tallyFaults
 passed-is ps xs = three (misplaced ps xs) (misnamed ps xs) (misfits (slots ps xs))
 
 -- a fault more of the first, second or third rule
@@ -170,7 +170,7 @@ add-second a b c n = ap (earlier a) (earlier-assoc b n c ∙ ap (earlier b) (ear
 
 module _ (ps : List Param) (xs : List Arg) (t : Token) (v : Value) where
   named-passed : {b : Bool} {ss : List Slot} → wrong ps xs t ≡ b → slots ps (xs ++ (named t v ∷ [])) ≡ ss
-      → first (passed ps (xs ++ (named t v ∷ []))) ≡ earlier (first (misplaced ps xs)) (earlier (earlier (first (misnamed ps xs)) (at17 (when b t))) (first (misfits ss)))
+      → first (tallyFaults ps (xs ++ (named t v ∷ []))) ≡ earlier (first (misplaced ps xs)) (earlier (earlier (first (misnamed ps xs)) (at17 (when b t))) (first (misfits ss)))
   named-passed h e =
       passed-is ps (xs ++ (named t v ∷ []))
       ∙ ap₂ earlier (ap first (misplaced-named true ps xs t v))
@@ -210,7 +210,7 @@ module _ (ps : List Param) (xs : List Arg) (t : Token) (v : Value) where
 
 module _ (ps : List Param) (xs : List Arg) (v : Value) where
   placed-passed : {b : Bool} → (leads xs && takesPlace (drop (length xs) ps)) ≡ b
-      → first (passed ps (xs ++ (positional v ∷ [])))
+      → first (tallyFaults ps (xs ++ (positional v ∷ [])))
       ≡ earlier (earlier (first (misplaced ps xs)) (first (unless b (fault 16 (startOf v))))) (earlier (first (misnamed ps xs)) (first (misfits (slots ps (xs ++ (positional v ∷ []))))))
   placed-passed {b} h =
       passed-is ps (xs ++ (positional v ∷ []))
@@ -257,12 +257,12 @@ unfolding misfits slotsFrom byName mathlib.Core.List.flatMap
 misfits-none [] = refl
 misfits-none (p ∷ ps) = misfits-none ps
 
-pub passed-none : (ps : List Param) → first (passed ps []) ≡ nothing
+pub passed-none : (ps : List Param) → first (tallyFaults ps []) ≡ nothing
 unfolding misplacedFrom labels leading first
 passed-none ps = passed-is ps [] ∙ ap₂ (λ (m r : List Fault). earlier (first m) (first r)) (misnamed-none ps [] refl) (misfits-none ps)
 
 pub whole : (place : ℕ) (ps : List Param) (xs : List Arg)
-    → first (flatten (misplaced ps xs ∷ misnamed ps xs ∷ misfits (slots ps xs) ∷ missing place (slots ps xs) ∷ [])) ≡ earlier (first (passed ps xs)) (first (missing place (slots ps xs)))
+    → first (flatten (misplaced ps xs ∷ misnamed ps xs ∷ misfits (slots ps xs) ∷ missing place (slots ps xs) ∷ [])) ≡ earlier (first (tallyFaults ps xs)) (first (missing place (slots ps xs)))
 unfolding flatten
 whole place ps xs =
     let a = misplaced ps xs in

@@ -24,7 +24,7 @@ use Rattle.syntax.specs.Inner.{lookahead}
 use Rattle.syntax.proofs.Row.{cond-has}
 use Rattle.syntax.proofs.Table.{toks-none, toks-more, toks-rest}
 use Rattle.rules.specs.Reading.{allTensor, allTensors}
-use Rattle.rules.specs.Fitting.{stacked, Several, IsBase, NoPair, Shaped, opens, closes, still, Walk, walk}
+use Rattle.rules.specs.Fitting.{stacked, Several, IsBase, NoPair, Shaped, roundsOpened, roundsClosed, still, TypeWalk, typeWalk}
 use Rattle.rules.specs.Fitting.Several.{two-or-more}
 use Rattle.rules.specs.Fitting.IsBase.{a-word, a-tuple-base}
 
@@ -57,44 +57,44 @@ dims-tensor (a-pair e f d) = dims-tensor d
 -- ---- the walk over a tuple type
 
 -- what the walk gives after the bracket that closes the first of d + 1
-abbrev shut : ℕ → Bool → List Token → Walk
-shut d x ts = cond (eqb d 0) (record { left = ts; tensor = x }) (walk d x ts)
+abbrev shut : ℕ → Bool → List Token → TypeWalk
+shut d x ts = cond (eqb d 0) (record { left = ts; tensor = x }) (typeWalk d x ts)
 
-shut-more : (d : ℕ) (x : Bool) (ts : List Token) → shut (suc d) x ts ≡ walk (suc d) x ts
+shut-more : (d : ℕ) (x : Bool) (ts : List Token) → shut (suc d) x ts ≡ typeWalk (suc d) x ts
 shut-more d x ts = rw (ne-eqb (suc d) 0 (λ z. omega arith))
 
 module _ (d : ℕ) (x : Bool) (t : Token) (ts : List Token) where
-  walk-to : {e : ℕ} {y : Bool} → (suc d + opens (symOf t)) - closes (symOf t) ≡ e → still (symOf t) x ≡ y → walk (suc d) x (t ∷ ts) ≡ shut e y ts
-  unfolding walk
+  walk-to : {e : ℕ} {y : Bool} → (suc d + roundsOpened (symOf t)) - roundsClosed (symOf t) ≡ e → still (symOf t) x ≡ y → typeWalk (suc d) x (t ∷ ts) ≡ shut e y ts
+  unfolding typeWalk
   walk-to p q = ap₂ (λ (e : ℕ) (y : Bool). shut e y ts) p q
 
-  walk-quiet : (s : ℕ) → symOf t ≡ s → opens s ≡ 0 → closes s ≡ 0 → walk (suc d) x (t ∷ ts) ≡ walk (suc d) (still s x) ts
+  walk-quiet : (s : ℕ) → symOf t ≡ s → roundsOpened s ≡ 0 → roundsClosed s ≡ 0 → typeWalk (suc d) x (t ∷ ts) ≡ typeWalk (suc d) (still s x) ts
   walk-quiet s e o c =
-      let p : (suc d + opens (symOf t)) - closes (symOf t) ≡ suc d = rw e (omega (arith, o, c)) in
+      let p : (suc d + roundsOpened (symOf t)) - roundsClosed (symOf t) ≡ suc d = rw e (omega (arith, o, c)) in
       walk-to p (ap (λ (z : ℕ). still z x) e) ∙ shut-more d (still s x) ts
 
-  walk-open : symOf t ≡ leftRound → walk (suc d) x (t ∷ ts) ≡ walk (suc (suc d)) x ts
-  unfolding opens closes still
+  walk-open : symOf t ≡ leftRound → typeWalk (suc d) x (t ∷ ts) ≡ typeWalk (suc (suc d)) x ts
+  unfolding roundsOpened roundsClosed still
   walk-open e =
       let p : (suc d + 1) - 0 ≡ suc (suc d) = omega arith in
-      walk-to (ap (λ (z : ℕ). (suc d + opens z) - closes z) e ∙ p) (ap (λ (z : ℕ). still z x) e) ∙ shut-more (suc d) x ts
+      walk-to (ap (λ (z : ℕ). (suc d + roundsOpened z) - roundsClosed z) e ∙ p) (ap (λ (z : ℕ). still z x) e) ∙ shut-more (suc d) x ts
 
-  walk-close : symOf t ≡ rightRound → walk (suc d) x (t ∷ ts) ≡ shut d x ts
-  unfolding opens closes still
+  walk-close : symOf t ≡ rightRound → typeWalk (suc d) x (t ∷ ts) ≡ shut d x ts
+  unfolding roundsOpened roundsClosed still
   walk-close e =
       let p : (suc d + 0) - 1 ≡ d = omega arith in
-      walk-to (ap (λ (z : ℕ). (suc d + opens z) - closes z) e ∙ p) (ap (λ (z : ℕ). still z x) e)
+      walk-to (ap (λ (z : ℕ). (suc d + roundsOpened z) - roundsClosed z) e ∙ p) (ap (λ (z : ℕ). still z x) e)
 
-  walk-comma : symOf t ≡ comma → walk (suc d) x (t ∷ ts) ≡ walk (suc d) x ts
-  unfolding opens closes still
+  walk-comma : symOf t ≡ comma → typeWalk (suc d) x (t ∷ ts) ≡ typeWalk (suc d) x ts
+  unfolding roundsOpened roundsClosed still
   walk-comma e = walk-quiet comma e refl refl
 
-  walk-square : symOf t ≡ leftSquare → walk (suc d) x (t ∷ ts) ≡ walk (suc d) x ts
-  unfolding opens closes still
+  walk-square : symOf t ≡ leftSquare → typeWalk (suc d) x (t ∷ ts) ≡ typeWalk (suc d) x ts
+  unfolding roundsOpened roundsClosed still
   walk-square e = walk-quiet leftSquare e refl refl
 
-  walk-unsquare : symOf t ≡ rightSquare → walk (suc d) x (t ∷ ts) ≡ walk (suc d) x ts
-  unfolding opens closes still
+  walk-unsquare : symOf t ≡ rightSquare → typeWalk (suc d) x (t ∷ ts) ≡ typeWalk (suc d) x ts
+  unfolding roundsOpened roundsClosed still
   walk-unsquare e = walk-quiet rightSquare e refl refl
 
 word-still : {s : ℕ} {w : Ty} (x : Bool) → IsTypeName s w → still s x ≡ (x && allTensor w)
@@ -110,23 +110,23 @@ word-still false is-logical = refl
 word-still true is-string = refl
 word-still false is-string = refl
 
-word-opens : {s : ℕ} {w : Ty} → IsTypeName s w → opens s ≡ 0
-unfolding opens
+word-opens : {s : ℕ} {w : Ty} → IsTypeName s w → roundsOpened s ≡ 0
+unfolding roundsOpened
 word-opens is-tensor = refl
 word-opens is-extent = refl
 word-opens is-scalar = refl
 word-opens is-logical = refl
 word-opens is-string = refl
 
-word-closes : {s : ℕ} {w : Ty} → IsTypeName s w → closes s ≡ 0
-unfolding closes
+word-closes : {s : ℕ} {w : Ty} → IsTypeName s w → roundsClosed s ≡ 0
+unfolding roundsClosed
 word-closes is-tensor = refl
 word-closes is-extent = refl
 word-closes is-scalar = refl
 word-closes is-logical = refl
 word-closes is-string = refl
 
-dims-walk : {b : ℕ} {ts us : List Token} {w u : Ty} (d : ℕ) (x : Bool) → Dims b ts w u us → walk (suc d) x ts ≡ walk (suc d) x us
+dims-walk : {b : ℕ} {ts us : List Token} {w u : Ty} (d : ℕ) (x : Bool) → Dims b ts w u us → typeWalk (suc d) x ts ≡ typeWalk (suc d) x us
 dims-walk d x no-pair = refl
 dims-walk d x (a-pair {o = o} {c = c} {ts = ts} e f h) = walk-square d x o (c ∷ ts) e ∙ (walk-unsquare d x c ts f ∙ dims-walk d x h)
 
@@ -142,10 +142,10 @@ and-last false y = refl
 mutual
   unfolding allTensor allTensors
 
-  type-walk : {b : ℕ} {ts us : List Token} {u : Ty} (d : ℕ) (x : Bool) → IsType b ts u us → walk (suc d) x ts ≡ walk (suc d) (x && allTensor u) us
+  type-walk : {b : ℕ} {ts us : List Token} {u : Ty} (d : ℕ) (x : Bool) → IsType b ts u us → typeWalk (suc d) x ts ≡ typeWalk (suc d) (x && allTensor u) us
   type-walk d x (a-plain {t = t} {ts = ts} {us = us} {w = w} {u = u} h p) =
       walk-quiet d x t ts (symOf t) refl (word-opens h) (word-closes h)
-      ∙ (dims-walk d (still (symOf t) x) p ∙ ap (λ (y : Bool). walk (suc d) y us) (word-still x h ∙ ap (λ (y : Bool). x && y) (sym (dims-tensor p))))
+      ∙ (dims-walk d (still (symOf t) x) p ∙ ap (λ (y : Bool). typeWalk (suc d) y us) (word-still x h ∙ ap (λ (y : Bool). x && y) (sym (dims-tensor p))))
   type-walk d x (a-tuple-type {o = o} {c = c} {ts = ts} {us = us} {ws = ws} {xs = xs} {w = w} {u = u} {vs = vs} e h f g p) =
       walk-open d x o ts e
       ∙ (type-walk (suc d) x h
@@ -153,9 +153,9 @@ mutual
       ∙ (types-walk (suc d) (x && allTensor w) g
       ∙ (shut-more d ((x && allTensor w) && allTensors vs) ws
       ∙ (dims-walk d ((x && allTensor w) && allTensors vs) p
-      ∙ ap (λ (y : Bool). walk (suc d) y xs) (and-more x (allTensor w) (allTensors vs) ∙ ap (λ (y : Bool). x && y) (sym (dims-tensor p))))))))
+      ∙ ap (λ (y : Bool). typeWalk (suc d) y xs) (and-more x (allTensor w) (allTensors vs) ∙ ap (λ (y : Bool). x && y) (sym (dims-tensor p))))))))
 
-  types-walk : {b : ℕ} {ts us : List Token} {vs : Tys} (d : ℕ) (x : Bool) → IsTypes b ts vs us → walk (suc d) x ts ≡ shut d (x && allTensors vs) us
+  types-walk : {b : ℕ} {ts us : List Token} {vs : Tys} (d : ℕ) (x : Bool) → IsTypes b ts vs us → typeWalk (suc d) x ts ≡ shut d (x && allTensors vs) us
   types-walk d x (last-type {c = c} {us = us} {u = u} h f) =
       type-walk d x h
       ∙ (walk-close d (x && allTensor u) c us f
@@ -187,7 +187,7 @@ pub base-none : {b : ℕ} {ts us : List Token} {w : Ty} → ts ≡ [] → IsBase
 base-none e (a-word h) = clash cc
 base-none e (a-tuple-base f d h) = clash cc
 
-base-walk : {b : ℕ} {o : Token} {ts us : List Token} {w : Ty} → symOf o ≡ leftRound → IsBase b (o ∷ ts) w us → walk 1 true ts ≡ record { left = us; tensor = allTensor w }
+base-walk : {b : ℕ} {o : Token} {ts us : List Token} {w : Ty} → symOf o ≡ leftRound → IsBase b (o ∷ ts) w us → typeWalk 1 true ts ≡ record { left = us; tensor = allTensor w }
 unfolding allTensor
 base-walk e (a-word h) = absurd (word-not-round h e)
 base-walk e (a-tuple-base f d h) = types-walk 0 true h
@@ -220,33 +220,33 @@ dims-pair (a-pair e f d) n h = pair refl d
 
 -- ---- places of a table
 
-pub opens-le : (s : ℕ) → opens s ≤ 1
-unfolding opens
+pub opens-le : (s : ℕ) → roundsOpened s ≤ 1
+unfolding roundsOpened
 opens-le s = cond-has (λ (z : ℕ). z ≤ 1) (eqb s leftRound) (omega arith) (omega arith)
 
-pub closes-le : (s : ℕ) → closes s ≤ 1
-unfolding closes
+pub closes-le : (s : ℕ) → roundsClosed s ≤ 1
+unfolding roundsClosed
 closes-le s = cond-has (λ (z : ℕ). z ≤ 1) (eqb s rightRound) (omega arith) (omega arith)
 
 module _ (text table : List ℕ) (n : ℕ) where
   -- the walk at the end of the tokens
-  pub walk-none : (i d : ℕ) (x : Bool) → n ≤ i → record { left = toks text table n n; tensor = x } ≡ walk d x (toks text table n i)
-  unfolding walk
+  pub walk-none : (i d : ℕ) (x : Bool) → n ≤ i → record { left = toks text table n n; tensor = x } ≡ typeWalk d x (toks text table n i)
+  unfolding typeWalk
   walk-none i d x h = rw (toks-none text table n i h, toks-none text table n n (omega arith))
 
   -- one token of the walk, as the code takes it
-  module _ (i d s o c : ℕ) (x y : Bool) (h : i < n) (e : s ≡ lookahead (toks text table n i)) (p : o ≡ opens s) (q : c ≡ closes s) (z : y ≡ still s x) where
-    walk-step : walk d x (toks text table n i) ≡ shut ((d + o) - c) y (toks text table n (i + 1))
-    unfolding walk
+  module _ (i d s o c : ℕ) (x y : Bool) (h : i < n) (e : s ≡ lookahead (toks text table n i)) (p : o ≡ roundsOpened s) (q : c ≡ roundsClosed s) (z : y ≡ still s x) where
+    walk-step : typeWalk d x (toks text table n i) ≡ shut ((d + o) - c) y (toks text table n (i + 1))
+    unfolding typeWalk
     walk-step =
         let t = e ∙ ap lookahead (toks-more text table n i h) in
-        ap (walk d x) (toks-more text table n i h) ∙ ap₂ (λ (k : ℕ) (b : Bool). shut k b (toks text table n (i + 1)))
-        (ap (λ (m : ℕ). (d + opens m) - closes m) (sym t) ∙ ap₂ (λ (k m : ℕ). (d + k) - m) (sym p) (sym q)) (ap (λ (m : ℕ). still m x) (sym t) ∙ sym z)
+        ap (typeWalk d x) (toks-more text table n i h) ∙ ap₂ (λ (k : ℕ) (b : Bool). shut k b (toks text table n (i + 1)))
+        (ap (λ (m : ℕ). (d + roundsOpened m) - roundsClosed m) (sym t) ∙ ap₂ (λ (k m : ℕ). (d + k) - m) (sym p) (sym q)) (ap (λ (m : ℕ). still m x) (sym t) ∙ sym z)
 
-    pub walk-ends : (d + o) - c ≡ 0 → record { left = toks text table n (i + 1); tensor = y } ≡ walk d x (toks text table n i)
+    pub walk-ends : (d + o) - c ≡ 0 → record { left = toks text table n (i + 1); tensor = y } ≡ typeWalk d x (toks text table n i)
     walk-ends w = sym (walk-step ∙ simp (eq-eqb ((d + o) - c) 0 w))
 
-    pub walk-goes : ((d + o) - c ≡ 0 → ⊥) → walk d x (toks text table n i) ≡ walk ((d + o) - c) y (toks text table n (i + 1))
+    pub walk-goes : ((d + o) - c ≡ 0 → ⊥) → typeWalk d x (toks text table n i) ≡ typeWalk ((d + o) - c) y (toks text table n (i + 1))
     walk-goes w = walk-step ∙ simp (ne-eqb ((d + o) - c) 0 w)
 
   -- what the code says of a base at place i that ends at place j
@@ -260,10 +260,10 @@ module _ (text table : List ℕ) (n : ℕ) where
     head-is : symOf (tokenAt text table i) ≡ s
     head-is = sym (e ∙ ap lookahead (toks-more text table n i h))
 
-    pub based-tuple : (j : ℕ) (x : Bool) → s ≡ leftRound → record { left = toks text table n j; tensor = x } ≡ walk 1 true (toks text table n (i + 1)) → Based i j x
+    pub based-tuple : (j : ℕ) (x : Bool) → s ≡ leftRound → record { left = toks text table n j; tensor = x } ≡ typeWalk 1 true (toks text table n (i + 1)) → Based i j x
     based-tuple j x f g b w us k =
         let r = g ∙ base-walk (head-is ∙ f) (subst (λ (ts : List Token). IsBase b ts w us) (toks-more text table n i h) k) in
-        (sym (ap (λ (z : Walk). z .left) r), ap (λ (z : Walk). z .tensor) r)
+        (sym (ap (λ (z : TypeWalk). z .left) r), ap (λ (z : TypeWalk). z .tensor) r)
 
     pub based-word : (s ≡ leftRound → ⊥) → Based i (i + 1) (eqb s tensorWord)
     based-word f b w us k =

@@ -9,6 +9,7 @@ use lib.ListN.{length, replicate}
 use lib.Seq.{sets}
 use Rattle.lexis.specs.Sizes.{maxText, workWords, callWords, wireWords}
 use Rattle.lexis.specs.Lexer.{Token, Lexed, accepted, refused, lex}
+use Rattle.lexis.specs.Code as Code
 use Rattle.lexis.specs.Answer.{answer}
 use Rattle.lexis.specs.declared.Answer.{Answer}
 use Rattle.syntax.specs.Tree.{Header, Document}
@@ -61,44 +62,68 @@ documentStages hs doc =
     andThen (syntaxStage 2 doc (parseDocument ts)) (λ d.
     rulesStage 2 d (first (documentFaults hs d))))
 
--- code 1: too little room is lent; code 2: a text is too long
-abbrev pub roomy : {A : Type 0} → Bool → Stage A → Stage A
-roomy b s = guard b (answer 1 0 0 0) s
+-- both trees of an accepted list and of a document accepted under it
+pub record Checked : Type 0 where
+  pub headers : List Header
+  pub document : Document
 
+-- the stages of both texts: those of the list, then those of the document under it
+unfoldable pub bothStages : List ℕ → List ℕ → Stage Checked
+bothStages list doc = andThen (listStages list) (λ hs. andThen (documentStages hs doc) (λ d. pass (record { headers = hs; document = d })))
+
+-- ---- guards: the refusals that write nothing
+
+-- code 1: too little room is lent
+abbrev pub roomy : {A : Type 0} → Bool → Stage A → Stage A
+roomy b s = guard b (answer Code.shortTable 0 0 0) s
+
+-- code 2: the text of this number is too long
 abbrev pub short : {A : Type 0} → ℕ → List ℕ → Stage A → Stage A
-short n text s = guard (leb (length text) maxText) (answer 2 n maxText 0) s
+short n text s = guard (leb (length text) maxText) (answer Code.longText n maxText 0) s
+
+-- the guards before the stages of both texts: the room, then the list, then the document
+abbrev pub guarded : {A : Type 0} → Bool → List ℕ → List ℕ → Stage A → Stage A
+guarded b list doc s = roomy b (short 1 list (short 2 doc s))
+
+-- the answer of stages: acceptance is 0, 0, 0 and a count
+abbrev pub stageAnswer : {A : Type 0} → Stage A → (A → ℕ) → Answer
+stageAnswer (pass a) n = answer Code.accepted 0 0 (n a)
+stageAnswer (stop r) n = r
 
 -- ---- declarations: from a list and the length of its work area
 
 unfoldable pub declared : List ℕ → ℕ → Stage (List Header)
 declared list work = roomy (leb workWords work) (short 1 list (listStages list))
 
--- acceptance is 0, 0, 0 and a count
-abbrev pub counted : {A : Type 0} → Stage A → (A → ℕ) → Answer
-counted (pass a) n = answer 0 0 0 (n a)
-counted (stop r) n = r
-
 -- acceptance counts operations
 unfoldable pub declarationsAnswer : List ℕ → ℕ → Answer
-declarationsAnswer list work = counted (declared list work) length
+declarationsAnswer list work = stageAnswer (declared list work) length
 
--- ---- check: from both texts and the lengths of both work areas, the call table and the wire table
+-- ---- check: from both texts and the lengths of what is lent beside them
 
-pub record Checked : Type 0 where
-  pub headers : List Header
-  pub document : Document
+-- the lengths of both work areas, of the call table and of the wire table
+pub record CheckRoom : Type 0 where
+  pub work₁ : ℕ
+  pub work₂ : ℕ
+  pub calls : ℕ
+  pub wires : ℕ
 
-unfoldable pub checked : List ℕ → List ℕ → ℕ → ℕ → ℕ → ℕ → Stage Checked
-checked list doc work₁ work₂ calls wires =
-    roomy (leb workWords work₁ && (leb workWords work₂ && (leb callWords calls && leb wireWords wires)))
-    (short 1 list
-    (short 2 doc
-    (andThen (listStages list) (λ hs.
-    andThen (documentStages hs doc) (λ d. pass (record { headers = hs; document = d }))))))
+abbrev pub checkRoom : List ℕ → List ℕ → List ℕ → List ℕ → CheckRoom
+checkRoom work₁ work₂ calls wires = record { work₁ = length work₁; work₂ = length work₂; calls = length calls; wires = length wires }
+
+-- the room that check asks
+abbrev pub checkServes : CheckRoom → Bool
+checkServes l = leb workWords (l .work₁) && (leb workWords (l .work₂) && (leb callWords (l .calls) && leb wireWords (l .wires)))
+
+unfoldable pub checked : List ℕ → List ℕ → CheckRoom → Stage Checked
+checked list doc l = guarded (checkServes l) list doc (bothStages list doc)
 
 -- acceptance counts calls
-unfoldable pub checkAnswer : List ℕ → List ℕ → ℕ → ℕ → ℕ → ℕ → Answer
-checkAnswer list doc work₁ work₂ calls wires = counted (checked list doc work₁ work₂ calls wires) (λ k. length (k .document .calls))
+abbrev pub callCount : Checked → ℕ
+callCount k = length (k .document .calls)
+
+unfoldable pub checkAnswer : List ℕ → List ℕ → CheckRoom → Answer
+checkAnswer list doc l = stageAnswer (checked list doc l) callCount
 
 -- ---- lent words afterwards
 
@@ -115,4 +140,4 @@ wiresAfter s table = tableAfter s (λ k. wireTable (k .document)) table
 
 -- a work area: after code 1 or 2 as it was, after any other answer zero over its full length
 unfoldable pub workAfter : Answer → List ℕ → List ℕ
-workAfter r work = cond (eqb (r .code) 1 || eqb (r .code) 2) work (replicate (length work) 0)
+workAfter r work = cond (eqb (r .code) Code.shortTable || eqb (r .code) Code.longText) work (replicate (length work) 0)

@@ -17,6 +17,7 @@ use Rattle.syntax.specs.Parser.Parse.{ok}
 use Rattle.syntax.specs.Table.{tokenAt, toks}
 use Rattle.syntax.specs.Tree.{Param, Arg}
 use Rattle.syntax.specs.Tree.Arg.{positional, named}
+use Rattle.rules.specs.Code as Code
 use Rattle.rules.specs.declared.parameter.Key.{Key}
 use Rattle.rules.specs.declared.parameter.Key.the-variants.{Place, Name}
 use Rattle.rules.specs.declared.parameter.Parameter.{Parameter}
@@ -51,7 +52,7 @@ without (r ∷ rs) (b ∷ bs) = (r && not b) ∷ without rs bs
 -- 19 with the number of the first flag, the first of the list being k
 unfoldable pub lacked : ℕ → ℕ → List Bool → List Fault
 lacked place k [] = []
-lacked place k (b ∷ bs) = let r = lacked place (suc k) bs in cond b (record { at = place; code = 19; detail = k } ∷ []) r
+lacked place k (b ∷ bs) = let r = lacked place (suc k) bs in cond b (record { at = place; code = Code.unbound; detail = k } ∷ []) r
 
 -- ---- the flags of parameters
 
@@ -74,8 +75,8 @@ leads (positional v ∷ xs) = leads xs
 leads (named t v ∷ xs) = false
 
 -- their faults of codes 16 to 18
-unfoldable pub passed : List Param → List Arg → List Fault
-passed ps xs = flatten (misplaced ps xs ∷ misnamed ps xs ∷ misfits (slots ps xs) ∷ [])
+unfoldable pub tallyFaults : List Param → List Arg → List Fault
+tallyFaults ps xs = flatten (misplaced ps xs ∷ misnamed ps xs ∷ misfits (slots ps xs) ∷ [])
 
 -- ---- a parameter that is sought
 
@@ -134,6 +135,6 @@ Ahead n i End = Unit {0}
 
 -- s is the tally of the arguments xs: their first fault, the parameters that they bind, and whether none of them is named
 pub record Tallies (ps : List Param) (xs : List Arg) (s : Tally) : Type 0 where
-  pub faulted : meant (s .best) ≡ first (passed ps xs)
+  pub faulted : meant (s .best) ≡ first (tallyFaults ps xs)
   pub flags : s .bound ≡ maskOf (bound ps xs)
   pub unnamed : s .leads ≡ leads xs

@@ -8,6 +8,7 @@ use Rattle.lexis.specs.Words.{sameBytes}
 use Rattle.lexis.specs.Lexer.{Token}
 use Rattle.syntax.specs.Tree.{Value, Ty, Param, Arg}
 use Rattle.syntax.specs.Tree.Arg.{positional, named}
+use Rattle.rules.specs.Code as Code
 use Rattle.rules.specs.Fault.{Fault, fault, faults, starts, unless}
 use Rattle.rules.specs.Names.{those, isAmong, repeats, startOf}
 use Rattle.rules.specs.Reading.{isSome, fits, allTensor}
@@ -76,7 +77,7 @@ takesPlace (p ∷ ps) = allTensor (p .ty)
 unfoldable pub misplacedFrom : Bool → List Param → List Arg → List Fault
 misplacedFrom b ps [] = []
 misplacedFrom b ps (named t v ∷ xs) = misplacedFrom false (later ps) xs
-misplacedFrom b ps (positional v ∷ xs) = unless (b && takesPlace ps) (fault 16 (startOf v)) ++ misplacedFrom b (later ps) xs
+misplacedFrom b ps (positional v ∷ xs) = unless (b && takesPlace ps) (fault Code.misplaced (startOf v)) ++ misplacedFrom b (later ps) xs
 
 abbrev pub misplaced : List Param → List Arg → List Fault
 misplaced ps xs = misplacedFrom true ps xs
@@ -84,7 +85,7 @@ misplaced ps xs = misplacedFrom true ps xs
 -- 17: a named argument that is unknown, bound by place already, or bound by a named one before it, at its name
 unfoldable pub misnamed : List Param → List Arg → List Fault
 misnamed ps xs =
-    faults 17 (starts
+    faults Code.misnamed (starts
     (flatten
     (those (λ t. not (isAmong (paramNames ps) t)) (labels xs)
     ∷ those (isAmong (taken ps (leading xs))) (labels xs)
@@ -94,7 +95,7 @@ misnamed ps xs =
 -- 18: a bound argument that does not fit its parameter's type, at the value's start
 abbrev pub misfit : Ty → Option Value → List Fault
 misfit u nothing = []
-misfit u (some v) = unless (fits v u) (fault 18 (startOf v))
+misfit u (some v) = unless (fits v u) (fault Code.misfit (startOf v))
 
 unfoldable pub misfits : List Slot → List Fault
 misfits ss = flatMap (λ (s : Slot). misfit (s .param .ty) (s .value)) ss
@@ -105,7 +106,7 @@ isMissing s = not (isSome (s .value)) && not (isSome (s .param .default))
 
 unfoldable pub missingFrom : ℕ → ℕ → List Slot → List Fault
 missingFrom place k [] = []
-missingFrom place k (s ∷ ss) = let r = missingFrom place (suc k) ss in cond (isMissing s) (record { at = place; code = 19; detail = k } ∷ []) r
+missingFrom place k (s ∷ ss) = let r = missingFrom place (suc k) ss in cond (isMissing s) (record { at = place; code = Code.unbound; detail = k } ∷ []) r
 
 abbrev pub missing : ℕ → List Slot → List Fault
 missing place ss = missingFrom place 0 ss

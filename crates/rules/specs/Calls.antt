@@ -34,7 +34,7 @@ pub record CallAt (text table : List ℕ) (n at : ℕ) (p : Places) (c : Call) (
   pub inside : (at < n) × (p .equal + 1 < n) × (p .next ≤ n)
 
 -- whatever stands there, the places lie in the table and go on
-pub record InTable (n at : ℕ) (p : Places) : Type 0 where
+pub record PlacesInside (n at : ℕ) (p : Places) : Type 0 where
   pub from : at ≤ p .equal
   pub left : p .equal ≤ n
   pub right : p .close ≤ n

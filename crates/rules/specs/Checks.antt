@@ -11,11 +11,11 @@ use Rattle.syntax.specs.Table.{toks}
 use Rattle.rules.specs.Names.{allUsed}
 use Rattle.rules.specs.Tables.{assigner}
 use Rattle.rules.specs.Calls.{Calls}
-use Rattle.rules.specs.Answer.{Stage, counted, Checked, callsAfter, wiresAfter}
+use Rattle.rules.specs.Answer.{Stage, stageAnswer, Checked, callsAfter, wiresAfter}
 
 -- the answer and both tables after these stages
 pub record Ended (s : Stage Checked) (calls calls' wires wires' : List ℕ) (r : Answer) : Type 0 where
-  pub answered : r ≡ counted s (λ k. length (k .document .calls))
+  pub answered : r ≡ stageAnswer s (λ k. length (k .document .calls))
   pub called : calls' ≡ callsAfter s calls
   pub wired : wires' ≡ wiresAfter s wires
 

@@ -9,6 +9,7 @@ use Rattle.lexis.specs.Sizes.{maxInputs, maxOutputs, maxCalls, maxAssigned, max
 use Rattle.lexis.specs.Words.{sameBytes}
 use Rattle.lexis.specs.Lexer.{Token}
 use Rattle.syntax.specs.Tree.{Header, Call, Document}
+use Rattle.rules.specs.Code as Code
 use Rattle.rules.specs.Fault.{Fault, fault, faults, starts, unless}
 use Rattle.rules.specs.Names.{repeats, startOf, allAssigned, allUsed}
 use Rattle.rules.specs.Reading.{fits, resultType}
@@ -18,7 +19,7 @@ use Rattle.rules.specs.Wiring.{again, unwired, misfed, unmade}
 
 -- 11: the version is not spelt `1.0`, at the literal
 unfoldable pub badVersion : Document → List Fault
-badVersion d = unless (sameBytes (d .version .bytes) (ascii "1.0")) (fault 11 (d .version .start))
+badVersion d = unless (sameBytes (d .version .bytes) (ascii "1.0")) (fault Code.wrongVersion (d .version .start))
 
 -- 12: more than 32 inputs or outputs, 384 calls, 1,024 identifiers assigned or 1,024 used, at the first name beyond, or, of a call, at its left side's start
 unfoldable pub documentCounts : Document → List Fault
@@ -33,7 +34,7 @@ documentCounts d =
 
 -- 13: a name repeated among the graph's inputs and outputs together, at the second one
 unfoldable pub graphRepeats : Document → List Fault
-graphRepeats d = faults 13 (starts (repeats (d .inputs ++ d .outputs)))
+graphRepeats d = faults Code.repeatedName (starts (repeats (d .inputs ++ d .outputs)))
 
 -- the declared operation of a name
 unfoldable pub find : List Header → Token → Option Header
@@ -47,7 +48,7 @@ byOperation (some h) f g = f h
 
 -- 15: the operation is not declared, at its name
 unfoldable pub undeclared : List Header → Call → List Fault
-undeclared hs c = byOperation (find hs (c .op)) (λ h. []) (fault 15 (c .op .start) ∷ [])
+undeclared hs c = byOperation (find hs (c .op)) (λ h. []) (fault Code.undeclared (c .op .start) ∷ [])
 
 -- 16 to 19: argument faults; an undeclared operation has none
 unfoldable pub argumentFaults : List Header → Call → List Fault
@@ -58,7 +59,7 @@ argumentFaults hs c =
 
 -- 20: the left side does not match the results, at its start; with an undeclared operation it is not held to anything
 unfoldable pub unmatched : List Header → Call → List Fault
-unmatched hs c = byOperation (find hs (c .op)) (λ h. unless (fits (c .left) (resultType (h .results))) (fault 20 (startOf (c .left)))) []
+unmatched hs c = byOperation (find hs (c .op)) (λ h. unless (fits (c .left) (resultType (h .results))) (fault Code.unmatched (startOf (c .left)))) []
 
 -- all faults of a document
 unfoldable pub documentFaults : List Header → Document → List Fault

@@ -72,25 +72,25 @@ pub data Columns (lead b : ℕ) : List Token → Tys → List Token → Type 0 w
 -- ---- the flat walk over a tuple type
 
 -- how many round brackets the terminal s opens, and closes
-unfoldable pub opens : ℕ → ℕ
-opens s = cond (eqb s leftRound) 1 0
+unfoldable pub roundsOpened : ℕ → ℕ
+roundsOpened s = cond (eqb s leftRound) 1 0
 
-unfoldable pub closes : ℕ → ℕ
-closes s = cond (eqb s rightRound) 1 0
+unfoldable pub roundsClosed : ℕ → ℕ
+roundsClosed s = cond (eqb s rightRound) 1 0
 
 -- of the terminals of a type only the words other than tensor are no less than `extent`
 unfoldable pub still : ℕ → Bool → Bool
 still s x = cond (ltb s extentWord) x false
 
 -- the tokens that are left, and whether no word other than tensor was met
-pub record Walk : Type 0 where
+pub record TypeWalk : Type 0 where
   pub left : List Token
   pub tensor : Bool
 
 -- up to the bracket that closes the first of d open ones
-unfoldable pub walk : ℕ → Bool → List Token → Walk
-walk d x [] = record { left = []; tensor = x }
-walk d x (t ∷ ts) = let e = (d + opens (symOf t)) - closes (symOf t) in let y = still (symOf t) x in cond (eqb e 0) (record { left = ts; tensor = y }) (walk e y ts)
+unfoldable pub typeWalk : ℕ → Bool → List Token → TypeWalk
+typeWalk d x [] = record { left = []; tensor = x }
+typeWalk d x (t ∷ ts) = let e = (d + roundsOpened (symOf t)) - roundsClosed (symOf t) in let y = still (symOf t) x in cond (eqb e 0) (record { left = ts; tensor = y }) (typeWalk e y ts)
 
 -- ---- arrays
 

@@ -30,7 +30,7 @@ pub record GraphAt (text table : List ℕ) (n b : ℕ) (g : Graph) (d : Document
   pub calls : Calls b (toks text table n (g .body)) (d .calls) (toks text table n (g .end))
 
 -- the walk has counted the calls ds
-pub record Counted (w : Walk) (ds : List Call) : Type 0 where
+pub record WalkCounts (w : Walk) (ds : List Call) : Type 0 where
   pub calls : w .calls ≡ length ds
   pub assigned : w .assigned ≡ length (allAssigned ds)
   pub uses : w .uses ≡ length (allUsed ds)
@@ -38,5 +38,5 @@ pub record Counted (w : Walk) (ds : List Call) : Type 0 where
 -- one call c more, with us after it
 pub record Stepped (text table : List ℕ) (n : ℕ) (inputs : List Token) (ds : List Call) (c : Call) (us : List Token) (w r : Walk) : Type 0 where
   pub after : us ≡ toks text table n (r .at)
-  pub counted : Counted r (ds ++ (c ∷ []))
+  pub counted : WalkCounts r (ds ++ (c ∷ []))
   pub found : meant (r .best) ≡ earlier (meant (w .best)) (first (callFaults inputs ds c))

@@ -1,4 +1,5 @@
 -- The rules of operation lists and documents, in the order in which to read them.
+pub mod Code
 pub mod Fault
 pub mod Best
 pub mod Names

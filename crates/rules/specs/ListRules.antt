@@ -7,13 +7,14 @@ use lib.ListN.{take, drop}
 use Rattle.lexis.specs.Sizes.{maxOperations, maxParameters, maxResults}
 use Rattle.lexis.specs.Lexer.{Token}
 use Rattle.syntax.specs.Tree.{Value, Ty, Param, Result, Header}
+use Rattle.rules.specs.Code as Code
 use Rattle.rules.specs.Fault.{Fault, fault, faults, starts, unless}
 use Rattle.rules.specs.Names.{repeats, startOf}
 use Rattle.rules.specs.Reading.{fits}
 
 -- 12: a count above its size, at the first of these places beyond it
 abbrev pub over : ℕ → List ℕ → List Fault
-over size places = faults 12 (take 1 (drop size places))
+over size places = faults Code.overSize (take 1 (drop size places))
 
 -- the names of a header: its parameters', then its results'
 abbrev pub paramNames : List Param → List Token
@@ -31,13 +32,13 @@ listCounts hs =
 -- 13: an operation's name repeated, or a name repeated among one header's parameters and results together, at the second one
 unfoldable pub listRepeats : List Header → List Fault
 listRepeats hs =
-    faults 13 (starts (repeats (map (λ (h : Header). h .name) hs)))
-    ++ flatMap (λ (h : Header). faults 13 (starts (repeats (headerNames h)))) hs
+    faults Code.repeatedName (starts (repeats (map (λ (h : Header). h .name) hs)))
+    ++ flatMap (λ (h : Header). faults Code.repeatedName (starts (repeats (headerNames h)))) hs
 
 -- 14: a default that does not fit its parameter's type, at the default's start
 abbrev pub badDefault : Ty → Option Value → List Fault
 badDefault u nothing = []
-badDefault u (some v) = unless (fits v u) (fault 14 (startOf v))
+badDefault u (some v) = unless (fits v u) (fault Code.badDefault (startOf v))
 
 unfoldable pub badDefaults : List Header → List Fault
 badDefaults hs = flatMap (λ (h : Header). flatMap (λ (p : Param). badDefault (p .ty) (p .default)) (h .params)) hs

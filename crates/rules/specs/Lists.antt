@@ -6,7 +6,7 @@ use mathlib.Core.List.{List, [], _∷_, _++_, map, flatMap, flatten}
 use lib.Dec.{eqb}
 use lib.ListN.{length, getD, take}
 use lib.Seq.{sets}
-use Rattle.lexis.specs.Sizes.{tableWords, maxBrackets, maxParameters, maxResults}
+use Rattle.lexis.specs.Sizes.{scratchStart, maxBrackets, maxParameters, maxResults}
 use Rattle.lexis.specs.Words.{sameBytes}
 use Rattle.lexis.specs.Lexer.{Token}
 use Rattle.syntax.specs.Symbol.{symOf, aName, arrow, fragment}
@@ -14,6 +14,7 @@ use Rattle.syntax.specs.Tree.{Header, Param, Result}
 use Rattle.syntax.specs.Parser.{Reader, param, header, operations}
 use Rattle.syntax.specs.Parser.Parse.{ok}
 use Rattle.syntax.specs.Table.{tokenAt, toks}
+use Rattle.rules.specs.Code as Code
 use Rattle.rules.specs.Fault.{Fault, faults, starts}
 use Rattle.rules.specs.Names.{repeats}
 use Rattle.rules.specs.ListRules.{over, paramNames, headerNames, badDefault}
@@ -44,15 +45,15 @@ pub record Plain (t : Token) : Type 0 where
   pub noWord : symOf t ≡ fragment → ⊥
 
 -- from ts up to its end us the names are those of the items xs, each of which is read from its name on; all other tokens are plain
-pub data Run {A : Type 0} (read : Reader A) (nameOf : A → Token) : List Token → List A → List Token → Type 0 where
-  stop : {ts : List Token} → Run read nameOf ts [] ts
-  pass : {t : Token} {ts us : List Token} {xs : List A} → Plain t → Run read nameOf ts xs us → Run read nameOf (t ∷ ts) xs us
+pub data ItemRun {A : Type 0} (read : Reader A) (nameOf : A → Token) : List Token → List A → List Token → Type 0 where
+  stop : {ts : List Token} → ItemRun read nameOf ts [] ts
+  pass : {t : Token} {ts us : List Token} {xs : List A} → Plain t → ItemRun read nameOf ts xs us → ItemRun read nameOf (t ∷ ts) xs us
   item : {t : Token} {ts us ws : List Token} {x : A} {xs : List A}
-      → symOf t ≡ aName → nameOf x ≡ t → read (t ∷ ts) ≡ ok x ws → Run read nameOf ts xs us → Run read nameOf (t ∷ ts) (x ∷ xs) us
+      → symOf t ≡ aName → nameOf x ≡ t → read (t ∷ ts) ≡ ok x ws → ItemRun read nameOf ts xs us → ItemRun read nameOf (t ∷ ts) (x ∷ xs) us
 
 -- those of parameters
 abbrev pub Params : List Token → List Param → List Token → Type 0
-Params ts ps us = Run (param maxBrackets) (λ (p : Param). p .name) ts ps us
+Params ts ps us = ItemRun (param maxBrackets) (λ (p : Param). p .name) ts ps us
 
 -- nothing, or the next header
 abbrev pub endsHeader : List Token → Type 0
@@ -64,12 +65,12 @@ abbrev pub defaultFaults : List Param → List Fault
 defaultFaults ps = flatMap (λ (p : Param). badDefault (p .ty) (p .default)) ps
 
 -- the faults of a header by itself: 12, 13 and 14
-unfoldable pub ownFaults : Header → List Fault
-ownFaults h =
+unfoldable pub headerFaults : Header → List Fault
+headerFaults h =
     flatten
     (over maxParameters (starts (paramNames (h .params)))
     ∷ over maxResults (starts (map (λ (r : Result). r .name) (h .results)))
-    ∷ faults 13 (starts (repeats (headerNames h)))
+    ∷ faults Code.repeatedName (starts (repeats (headerNames h)))
     ∷ defaultFaults (h .params)
     ∷ [])
 
@@ -77,7 +78,7 @@ ownFaults h =
 
 -- the words of a work area that hold the token table
 abbrev pub tableOf : List ℕ → List ℕ
-tableOf work = take tableWords work
+tableOf work = take scratchStart work
 
 -- the headers stand at these places: each begins one place before that of its name, and the next header or the end follows it
 pub data Heads (text table : List ℕ) (n b : ℕ) : List ℕ → List Header → Type 0 where
@@ -86,7 +87,7 @@ pub data Heads (text table : List ℕ) (n b : ℕ) : List ℕ → List Header �
       → header b (toks text table n (q - 1)) ≡ ok h us → endsHeader us → Heads text table n b qs hs → Heads text table n b (q ∷ qs) (h ∷ hs)
 
 -- each word is the place of a token that has one before it
-pub record Places (n : ℕ) (words : List ℕ) : Type 0 where
+pub record NamePlaces (n : ℕ) (words : List ℕ) : Type 0 where
   pub below : (i : ℕ) → i < length words → (getD words i 0 < n) × (0 < getD words i 0)
 
 -- the n tokens of a table are an operation list
@@ -98,10 +99,10 @@ pub record HasList (text table : List ℕ) (n : ℕ) : Type 0 where
 -- k words are stored behind the table, and they are the directory of whatever list the tokens are
 pub record Directory (text before after : List ℕ) (n k : ℕ) : Type 0 where
   pub words : List ℕ
-  pub stored : after ≡ sets before tableWords words
+  pub stored : after ≡ sets before scratchStart words
   pub count : length words ≡ k
   pub few : k ≤ n
-  pub places : Places n words
+  pub places : NamePlaces n words
   pub heads : (b : ℕ) (hs : List Header) → operations b (toks text (tableOf before) n 0) ≡ ok hs [] → Heads text (tableOf before) n b words hs
 
 -- ---- look-up

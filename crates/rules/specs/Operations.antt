@@ -4,6 +4,7 @@ use Prim.Native.Nat.{ℕ, _+_, _<_, _≤_}
 use mathlib.Core.List.{List, [], _∷_, _++_, flatten}
 use lib.ListN.{length, getD}
 use Rattle.syntax.specs.Tree.{Header, Call}
+use Rattle.rules.specs.Code as Code
 use Rattle.rules.specs.Fault.{Fault, fault, unless}
 use Rattle.rules.specs.Names.{startOf}
 use Rattle.rules.specs.Reading.{fits, resultType}
@@ -28,7 +29,7 @@ abbrev pub boundFaults : Header → Call → List Fault
 boundFaults h c = boundAt (c .op .start) h c
 
 abbrev pub leftFaults : Header → Call → List Fault
-leftFaults h c = unless (fits (c .left) (resultType (h .results))) (fault 20 (startOf (c .left)))
+leftFaults h c = unless (fits (c .left) (resultType (h .results))) (fault Code.unmatched (startOf (c .left)))
 
 -- the parameters of every operation in a directory begin in the table
 pub record Opened (n : ℕ) (words : List ℕ) : Type 0 where

@@ -4,7 +4,7 @@ use Prim.Native.Nat.{ℕ, _≤_}
 use mathlib.Core.Path.{_≡_}
 use mathlib.Core.List.{List, []}
 use lib.ListN.{length, take, drop}
-use Rattle.lexis.specs.Sizes.{maxTokens, tableWords, maxBrackets}
+use Rattle.lexis.specs.Sizes.{maxTokens, scratchStart, maxBrackets}
 use Rattle.lexis.specs.Lexer.{accepted, lex}
 use Rattle.syntax.specs.Tree.{Header, Document}
 use Rattle.syntax.specs.Parser.{parseList, parseDocument}
@@ -13,8 +13,8 @@ use Rattle.syntax.specs.Table.{toks, Holds}
 use Rattle.rules.specs.Fault as F
 use Rattle.rules.specs.ListRules.{listFaults}
 use Rattle.rules.specs.DocumentRules.{documentFaults}
-use Rattle.rules.specs.Lists.{tableOf, Heads, Places}
-use Rattle.rules.specs.Answer.{Stage, pass, stop, andThen, rulesStage, listStages, documentStages, Checked}
+use Rattle.rules.specs.Lists.{tableOf, Heads, NamePlaces}
+use Rattle.rules.specs.Answer.{pass, stop, rulesStage, listStages, documentStages, bothStages}
 use Rattle.rules.specs.declared.list.Listed.{Listed}
 use Rattle.rules.specs.declared.list.Listed.the-variants.{Passed, Stopped}
 use Rattle.rules.specs.declared.stages.Staged.{Staged}
@@ -31,8 +31,8 @@ pub record ListRead (text work : List ℕ) (n : ℕ) : Type 0 where
   pub stages : listStages text ≡ rulesStage 1 headers (F.first (listFaults headers))
 
 -- the k words behind the table
-abbrev pub namesOf : List ℕ → ℕ → List ℕ
-namesOf work k = take k (drop tableWords work)
+abbrev pub directoryOf : List ℕ → ℕ → List ℕ
+directoryOf work k = take k (drop scratchStart work)
 
 -- the list has passed its stages; it has n tokens and k operations
 pub record ListPassed (text work : List ℕ) (n k : ℕ) : Type 0 where
@@ -44,8 +44,8 @@ pub record ListPassed (text work : List ℕ) (n k : ℕ) : Type 0 where
   pub lexed : lex text ≡ accepted (toks text work n 0)
   pub table : Holds text work n
   pub parsed : parseList (toks text work n 0) ≡ ok headers []
-  pub places : Places n (namesOf work k)
-  pub heads : Heads text work n maxBrackets (namesOf work k) headers
+  pub places : NamePlaces n (directoryOf work k)
+  pub heads : Heads text work n maxBrackets (directoryOf work k) headers
 
 -- what the stages come to
 abbrev pub ListDone : List ℕ → List ℕ → Listed → Type 0
@@ -73,10 +73,6 @@ pub record DocumentPassed (hs : List Header) (text work : List ℕ) (n : ℕ) : 
   pub parsed : parseDocument (toks text work n 0) ≡ ok document []
 
 -- ---- both texts
-
--- the stages of a list and of a document under it
-unfoldable pub bothStages : List ℕ → List ℕ → Stage Checked
-bothStages list doc = andThen (listStages list) (λ hs. andThen (documentStages hs doc) (λ d. pass (record { headers = hs; document = d })))
 
 -- both have passed; the list has n tokens and k operations, the document m tokens
 pub record BothPassed (list doc work₁ work₂ : List ℕ) (n k m : ℕ) : Type 0 where

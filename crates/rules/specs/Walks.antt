@@ -8,6 +8,7 @@ use lib.ListN.{length}
 use Rattle.lexis.specs.Sizes.{maxCalls, maxAssigned, maxUses}
 use Rattle.lexis.specs.Lexer.{Token}
 use Rattle.syntax.specs.Tree.{Call, Document}
+use Rattle.rules.specs.Code as Code
 use Rattle.rules.specs.Fault.{Fault, fault}
 use Rattle.rules.specs.Names.{isAmong, firstToken, assigned, used, allAssigned, allUsed}
 use Rattle.rules.specs.Wiring.{isExternal, again, unwired, misfed, unmade}
@@ -38,16 +39,16 @@ repeating code ss t = when (isAmong ss t) (fault code (t .start))
 
 -- 12: the name beyond a size
 abbrev pub beyond : ℕ → Rule
-beyond size ss t = when (eqb (length ss) size) (fault 12 (t .start))
+beyond size ss t = when (eqb (length ss) size) (fault Code.overSize (t .start))
 
-abbrev pub both : Rule → Rule → Rule
-both f g ss t = f ss t ++ g ss t
+abbrev pub bothRules : Rule → Rule → Rule
+bothRules f g ss t = f ss t ++ g ss t
 
 -- ---- the rules of inputs, outputs, left sides and arguments
 
 -- an input or output: 12 beyond the size, and this code if it is never assigned
 abbrev pub listing : ℕ → ℕ → List Token → Rule
-listing size code known = both (beyond size) (passing code (λ t. not (isAmong known t)))
+listing size code known = bothRules (beyond size) (passing code (λ t. not (isAmong known t)))
 
 -- 23: an input assigned by another operation than `external`, or another identifier assigned by it
 abbrev pub misfeeds : Bool → Bool → Bool
@@ -55,18 +56,18 @@ misfeeds external input = cond external (not input) input
 
 -- an identifier assigned: 12, 21 and 23
 abbrev pub assigning : List Token → Bool → Rule
-assigning inputs external = both (beyond maxAssigned) (both (repeating 21) (passing 23 (λ t. misfeeds external (isAmong inputs t))))
+assigning inputs external = bothRules (beyond maxAssigned) (bothRules (repeating Code.assignedAgain) (passing Code.misfed (λ t. misfeeds external (isAmong inputs t))))
 
 -- an identifier used: 12 and 22
 abbrev pub consuming : List Token → Rule
-consuming known = both (beyond maxUses) (passing 22 (λ t. not (isAmong known t)))
+consuming known = bothRules (beyond maxUses) (passing Code.unassignedUse (λ t. not (isAmong known t)))
 
 -- ---- bodies
 
 -- the faults of a call after the calls ds: 12 if it is one too many, those of its left side, those of its arguments
 unfoldable pub callFaults : List Token → List Call → Call → List Fault
 callFaults inputs ds c =
-    when (eqb (length ds) maxCalls) (fault 12 (firstToken (c .left) .start))
+    when (eqb (length ds) maxCalls) (fault Code.overSize (firstToken (c .left) .start))
     ++ (scan (assigning inputs (isExternal c)) (allAssigned ds) (assigned c) ++ scan (consuming (allAssigned ds)) (allUsed ds) (used c))
 
 -- those of calls after the calls ds

@@ -5,6 +5,7 @@ use Rattle.lexis.specs.Ascii.{ascii}
 use Rattle.lexis.specs.Words.{sameBytes}
 use Rattle.lexis.specs.Lexer.{Token}
 use Rattle.syntax.specs.Tree.{Call, Document}
+use Rattle.rules.specs.Code as Code
 use Rattle.rules.specs.Fault.{Fault, faults, starts}
 use Rattle.rules.specs.Names.{those, isAmong, repeats, assigned, used, allAssigned}
 
@@ -14,12 +15,12 @@ strangers known ts = those (λ t. not (isAmong known t)) ts
 
 -- 21: an identifier assigned again, at that place
 unfoldable pub again : Document → List Fault
-again d = faults 21 (starts (repeats (allAssigned (d .calls))))
+again d = faults Code.assignedAgain (starts (repeats (allAssigned (d .calls))))
 
 -- 22: an identifier used and not assigned by an earlier call, at the use; `known` are those that earlier calls assign
 unfoldable pub unwiredAfter : List Token → List Call → List Fault
 unwiredAfter known [] = []
-unwiredAfter known (c ∷ cs) = faults 22 (starts (strangers known (used c))) ++ unwiredAfter (known ++ assigned c) cs
+unwiredAfter known (c ∷ cs) = faults Code.unassignedUse (starts (strangers known (used c))) ++ unwiredAfter (known ++ assigned c) cs
 
 abbrev pub unwired : Document → List Fault
 unwired d = unwiredAfter [] (d .calls)
@@ -31,11 +32,11 @@ isExternal c = sameBytes (c .op .bytes) (ascii "external")
 -- 23: an input that is never assigned, at its header place; an input assigned by another operation than `external`, or another identifier
 -- assigned by `external`, at the identifier
 unfoldable pub misfedBy : List Token → Call → List Fault
-misfedBy inputs c = faults 23 (starts (cond (isExternal c) (strangers inputs (assigned c)) (those (isAmong inputs) (assigned c))))
+misfedBy inputs c = faults Code.misfed (starts (cond (isExternal c) (strangers inputs (assigned c)) (those (isAmong inputs) (assigned c))))
 
 unfoldable pub misfed : Document → List Fault
-misfed d = faults 23 (starts (strangers (allAssigned (d .calls)) (d .inputs))) ++ flatMap (misfedBy (d .inputs)) (d .calls)
+misfed d = faults Code.misfed (starts (strangers (allAssigned (d .calls)) (d .inputs))) ++ flatMap (misfedBy (d .inputs)) (d .calls)
 
 -- 24: an output that is never assigned, at its header place
 unfoldable pub unmade : Document → List Fault
-unmade d = faults 24 (starts (strangers (allAssigned (d .calls)) (d .outputs)))
+unmade d = faults Code.unassignedOutput (starts (strangers (allAssigned (d .calls)) (d .outputs)))

@@ -1,6 +1,7 @@
 // The arguments of one call against the parameters of its operation: codes 16 to 19. The arguments stand in the document's table, the
 // parameters in the list's.
 use crate::best::Best;
+use crate::code::Code;
 use crate::fitting::all_tensor;
 use crate::fitting::fits;
 use crate::mask::first_missing;
@@ -79,7 +80,7 @@ fn misfit(
     if fits(dtext, dtable, dn, v, ltext, ltable, ln, t) {
         return Best::none();
     }
-    fault_at(dtext, dtable, dn, v, 18)
+    fault_at(dtext, dtable, dn, v, Code::MISFIT)
 }
 
 impl Tally {
@@ -116,14 +117,14 @@ fn positional(
         value both maxBrackets (toks (now (dtext .entry)) (now (dtable .entry)) dn at) ≡ ok v us → k ≡ length xs → Tallies ps xs before → Tallies ps (xs ++ (positional v ∷ [])) r) ⌝ }
 {
     if !before.leads {
-        return before.refuse(fault_at(dtext, dtable, dn, at, 16), false);
+        return before.refuse(fault_at(dtext, dtable, dn, at, Code::MISPLACED), false);
     }
     let found = find(dtext, dtable, dn, Key::Place(k), ltext, ltable, ln, params);
     let Parameter::At { index, place } = found else {
-        return before.refuse(fault_at(dtext, dtable, dn, at, 16), true);
+        return before.refuse(fault_at(dtext, dtable, dn, at, Code::MISPLACED), true);
     };
     if !all_tensor(ltext, ltable, ln, place) {
-        return before.refuse(fault_at(dtext, dtable, dn, at, 16), true);
+        return before.refuse(fault_at(dtext, dtable, dn, at, Code::MISPLACED), true);
     }
     Tally {
         best: before
@@ -156,10 +157,10 @@ fn named(
 {
     let found = find(dtext, dtable, dn, Key::Name(at), ltext, ltable, ln, params);
     let Parameter::At { index, place } = found else {
-        return before.refuse(fault_at(dtext, dtable, dn, at, 17), false);
+        return before.refuse(fault_at(dtext, dtable, dn, at, Code::MISNAMED), false);
     };
     if holds(before.bound, index) {
-        return before.refuse(fault_at(dtext, dtable, dn, at, 17), false);
+        return before.refuse(fault_at(dtext, dtable, dn, at, Code::MISNAMED), false);
     }
     Tally {
         best: before.best.earlier(misfit(dtext, dtable, dn, at + 2, ltext, ltable, ln, place)),

@@ -1,6 +1,7 @@
 // The faults of a body, call by call.
 use crate::best::Best;
 use crate::calls::places_at;
+use crate::code::Code;
 use crate::graph::Graph;
 use crate::names::spelt;
 use crate::wiring::assigned;
@@ -22,7 +23,7 @@ ghost use Rattle.rules.specs.Best.{meant};
 ghost use Rattle.rules.specs.Scans.{namesAmong};
 ghost use Rattle.rules.specs.Calls.{Calls};
 ghost use Rattle.rules.specs.Walks.{bodyFaults};
-ghost use Rattle.rules.specs.Graphs.{Counted, Stepped};
+ghost use Rattle.rules.specs.Graphs.{WalkCounts, Stepped};
 
 // The first fault of the calls before place `at`, and how many calls, identifiers assigned and identifiers used there are.
 pub struct Walk {
@@ -50,14 +51,18 @@ fn call_at(text: &[u8], table: &[u32], n: usize, graph: Graph, walk: Walk) -> Wa
     requires { ⌜ (walk .at < n) × (graph .inputs ≤ n) ⌝ }
     requires { ⌜ (walk .calls ≤ walk .at) × (walk .assigned ≤ walk .at) × (walk .uses ≤ walk .at) ⌝ }
     ensures { λ r. ⌜ (walk .at < r .at) × (r .calls ≤ r .at) × (r .assigned ≤ r .at) × (r .uses ≤ r .at) ⌝ }
-    ensures { λ r. ⌜ ((b : ℕ) (ds : List Call) (c : Call) (us : List Token) → Calls b (toks (now (text .entry)) (now (table .entry)) n (graph .body)) ds (toks (now (text .entry)) (now (table .entry)) n (walk .at)) → call b (toks (now (text .entry)) (now (table .entry)) n (walk .at)) ≡ ok c us → Counted walk ds → Stepped (now (text .entry)) (now (table .entry)) n (namesAmong (toks (now (text .entry)) (now (table .entry)) (graph .inputs) 5)) ds c us walk r) ⌝ }
+    ensures { λ r. ⌜ ((b : ℕ) (ds : List Call) (c : Call) (us : List Token) → Calls b (toks (now (text .entry)) (now (table .entry)) n (graph .body)) ds (toks (now (text .entry)) (now (table .entry)) n (walk .at)) → call b (toks (now (text .entry)) (now (table .entry)) n (walk .at)) ≡ ok c us → WalkCounts walk ds → Stepped (now (text .entry)) (now (table .entry)) n (namesAmong (toks (now (text .entry)) (now (table .entry)) (graph .inputs) 5)) ds c us walk r) ⌝ }
 {
     let at = walk.at;
     let calls = walk.calls + 1;
     let places = places_at(text, table, n, at);
     let from = places.equal + 3;
     let external = is_external(text, table, n, places.equal + 1);
-    let beyond = Best::fault_if(walk.calls == Limits::CALLS, 12, start_at(table, at));
+    let beyond = Best::fault_if(
+        walk.calls == Limits::CALLS,
+        Code::OVER_SIZE,
+        start_at(table, at),
+    );
     let left = assigned(
         text,
         table,

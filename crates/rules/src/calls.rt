@@ -13,7 +13,7 @@ ghost use Rattle.syntax.specs.Parser.Parse.{ok};
 ghost use Rattle.syntax.specs.Table.{toks, Holds};
 ghost use Rattle.syntax.specs.Inner.{theEnd};
 ghost use Rattle.rules.specs.Scans.{fromSymbol, openAfter, fromClose};
-ghost use Rattle.rules.specs.Calls.{CallAt, InTable};
+ghost use Rattle.rules.specs.Calls.{CallAt, PlacesInside};
 
 // The place of a call's `=`, that of the bracket that closes its arguments, and the place after it. The operation's name stands after
 // the `=`, and its arguments begin three places after it.
@@ -95,7 +95,7 @@ fn after_call(text: &[u8], table: &[u32], n: usize, close: usize) -> usize
 pub fn places_at(text: &[u8], table: &[u32], n: usize, at: usize) -> Places
     requires { ⌜ Holds (now text) (now table) n ⌝ }
     requires { ⌜ at ≤ n ⌝ }
-    ensures { λ r. ⌜ InTable n at r ⌝ }
+    ensures { λ r. ⌜ PlacesInside n at r ⌝ }
     ensures { λ r. ⌜ ((b : ℕ) (c : Call) (us : List Token) → call b (toks (now (text .entry)) (now (table .entry)) n at) ≡ ok c us → CallAt (now (text .entry)) (now (table .entry)) n at r c us) ⌝ }
 {
     let equal = find(text, table, n, at, Symbol::EQUAL);

@@ -15,8 +15,8 @@ ghost use lib.Dec.{leb};
 ghost use lib.ListN.{length};
 ghost use Rattle.lexis.specs.Answer.{answer};
 ghost use Rattle.lexis.specs.Sizes.{maxText, maxCalls, workWords, callWords, wireWords};
-ghost use Rattle.rules.specs.Answer.{checked, checkAnswer, callsAfter, wiresAfter, workAfter};
-ghost use Rattle.rules.specs.Stages.{bothStages, BothPassed};
+ghost use Rattle.rules.specs.Answer.{bothStages, checkRoom, checked, checkAnswer, callsAfter, wiresAfter, workAfter};
+ghost use Rattle.rules.specs.Stages.{BothPassed};
 ghost use Rattle.rules.specs.Checks.{Ended};
 
 // Whether the work areas and the tables have the room that is asked.
@@ -65,7 +65,7 @@ fn write_tables(
     ensures { λ r. ⌜ r ≤ maxCalls ⌝ }
     ensures { λ r. ⌜ Ended (bothStages (now (list .entry)) (now (doc .entry))) (now (calls .entry)) (now (calls .exit)) (now (wires .entry)) (now (wires .exit)) (answer 0 0 0 r) ⌝ }
 {
-    let names = &work1[Limits::TABLE_WORDS..Limits::TABLE_WORDS + k];
+    let names = &work1[Limits::SCRATCH_START..Limits::SCRATCH_START + k];
     let graph = graph_at(doc, work2, m);
     let count = write_calls(
         list,
@@ -120,9 +120,9 @@ pub fn check(
     calls: &mut [u32],
     wires: &mut [u32],
 ) -> Answer
-    ensures { λ r. ⌜ r ≡ checkAnswer (now (list .entry)) (now (doc .entry)) (length (now (work1 .entry))) (length (now (work2 .entry))) (length (now (calls .entry))) (length (now (wires .entry))) ⌝ }
-    ensures { λ _. ⌜ now (calls .exit) ≡ callsAfter (checked (now (list .entry)) (now (doc .entry)) (length (now (work1 .entry))) (length (now (work2 .entry))) (length (now (calls .entry))) (length (now (wires .entry)))) (now (calls .entry)) ⌝ }
-    ensures { λ _. ⌜ now (wires .exit) ≡ wiresAfter (checked (now (list .entry)) (now (doc .entry)) (length (now (work1 .entry))) (length (now (work2 .entry))) (length (now (calls .entry))) (length (now (wires .entry)))) (now (wires .entry)) ⌝ }
+    ensures { λ r. ⌜ r ≡ checkAnswer (now (list .entry)) (now (doc .entry)) (checkRoom (now (work1 .entry)) (now (work2 .entry)) (now (calls .entry)) (now (wires .entry))) ⌝ }
+    ensures { λ _. ⌜ now (calls .exit) ≡ callsAfter (checked (now (list .entry)) (now (doc .entry)) (checkRoom (now (work1 .entry)) (now (work2 .entry)) (now (calls .entry)) (now (wires .entry)))) (now (calls .entry)) ⌝ }
+    ensures { λ _. ⌜ now (wires .exit) ≡ wiresAfter (checked (now (list .entry)) (now (doc .entry)) (checkRoom (now (work1 .entry)) (now (work2 .entry)) (now (calls .entry)) (now (wires .entry)))) (now (wires .entry)) ⌝ }
     ensures { λ r. ⌜ now (work1 .exit) ≡ workAfter r (now (work1 .entry)) ⌝ }
     ensures { λ r. ⌜ now (work2 .exit) ≡ workAfter r (now (work2 .entry)) ⌝ }
 {

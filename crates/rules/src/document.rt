@@ -1,6 +1,7 @@
 // The faults of a document that need no operation list.
 use crate::best::Best;
 use crate::body::body_faults;
+use crate::code::Code;
 use crate::graph::graph_at;
 use crate::names::repeated;
 use crate::names::spelt;
@@ -29,7 +30,7 @@ fn bad_version(text: &[u8], table: &[u32], n: usize) -> Best
         return Best::none();
     }
     let right = spelt(text, table, n, 1, b"1.0");
-    Best::fault_if(!right, 11, start_at(table, 1))
+    Best::fault_if(!right, Code::WRONG_VERSION, start_at(table, 1))
 }
 
 // The first of them.
@@ -48,7 +49,7 @@ pub fn own_faults(text: &[u8], table: &[u32], n: usize) -> Best
         5,
         graph.inputs,
         Limits::INPUTS,
-        23,
+        Code::MISFED,
     );
     let outputs = listed(
         text,
@@ -59,9 +60,9 @@ pub fn own_faults(text: &[u8], table: &[u32], n: usize) -> Best
         graph.outputs,
         graph.closes,
         Limits::OUTPUTS,
-        24,
+        Code::UNASSIGNED_OUTPUT,
     );
-    let repeats = repeated(text, table, n, 5, graph.closes, 13);
+    let repeats = repeated(text, table, n, 5, graph.closes, Code::REPEATED_NAME);
     let body = body_faults(text, table, n, graph);
     version.earlier(inputs.earlier(outputs.earlier(repeats.earlier(body))))
 }

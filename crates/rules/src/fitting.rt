@@ -21,7 +21,7 @@ ghost use Rattle.syntax.specs.Parser.Parse.{ok};
 ghost use Rattle.syntax.specs.Table.{toks, Holds, tokenAt};
 ghost use Rattle.syntax.specs.Inner.{theEnd};
 ghost use Rattle.rules.specs.Reading.{isNumber, fits, allTensor, resultType};
-ghost use Rattle.rules.specs.Fitting.{literalFits, leafFits, stacked, Several, IsBase, NoPair, Shaped, Columns, opens, closes, still, walk, Within, isYes, isWhole, OfValue, OfArray, OfEach, OfLeft, OfWhole};
+ghost use Rattle.rules.specs.Fitting.{literalFits, leafFits, stacked, Several, IsBase, NoPair, Shaped, Columns, roundsOpened, roundsClosed, still, typeWalk, Within, isYes, isWhole, OfValue, OfArray, OfEach, OfLeft, OfWhole};
 
 // The kinds of literal, as words of a token record.
 const WHOLE: u32 = Kind::WHOLE as u32;
@@ -128,7 +128,7 @@ fn literal_at(text: &[u8], table: &[u32], n: usize, at: usize, word: u32) -> boo
     requires { ⌜ at < n ⌝ }
     ensures { λ r. ⌜ r ≡ literalFits word (tokenAt (now (text .entry)) (now (table .entry)) at .kind) (tokenAt (now (text .entry)) (now (table .entry)) at .bytes) ⌝ }
 {
-    let i = at * Limits::TOKEN_WORDS;
+    let i = at * Limits::RECORD_WORDS;
     let start = size(table[i + 1]);
     let end = size(table[i + 2]);
     literal_fits(word, table[i], &text[start..end])
@@ -151,7 +151,7 @@ fn leaf_fits(text: &[u8], table: &[u32], n: usize, at: usize, s: u32, word: u32)
 
 // How many round brackets the terminal s opens.
 fn opens(s: u32) -> usize
-    ensures { λ r. ⌜ r ≡ opens s ⌝ }
+    ensures { λ r. ⌜ r ≡ roundsOpened s ⌝ }
 {
     if s == Symbol::LEFT_ROUND {
         return 1;
@@ -161,7 +161,7 @@ fn opens(s: u32) -> usize
 
 // How many round brackets the terminal s closes.
 fn closes(s: u32) -> usize
-    ensures { λ r. ⌜ r ≡ closes s ⌝ }
+    ensures { λ r. ⌜ r ≡ roundsClosed s ⌝ }
 {
     if s == Symbol::RIGHT_ROUND {
         return 1;
@@ -184,7 +184,7 @@ fn inside(text: &[u8], table: &[u32], n: usize, at: usize) -> Span
     requires { ⌜ Holds (now text) (now table) n ⌝ }
     requires { ⌜ at ≤ n ⌝ }
     ensures range { λ r. ⌜ r .at ≤ n ⌝ }
-    ensures meaning { λ r. ⌜ record { left = toks (now (text .entry)) (now (table .entry)) n (r .at); tensor = r .tensor } ≡ walk 1 true (toks (now (text .entry)) (now (table .entry)) n at) ⌝ }
+    ensures meaning { λ r. ⌜ record { left = toks (now (text .entry)) (now (table .entry)) n (r .at); tensor = r .tensor } ≡ typeWalk 1 true (toks (now (text .entry)) (now (table .entry)) n at) ⌝ }
 {
     let mut depth = 1;
     let mut tensor = true;

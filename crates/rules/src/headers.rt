@@ -1,5 +1,6 @@
 // The rules of an operation list: codes 12, 13 and 14.
 use crate::best::Best;
+use crate::code::Code;
 use crate::fitting::fits;
 use crate::names::repeated;
 use crate::operation::Lookup;
@@ -21,7 +22,7 @@ ghost use mathlib.Core.Option.{some};
 ghost use mathlib.Core.Option.{none as nothing};
 ghost use Prim.Native.Nat.{ℕ, _-_, _*_, _<_, _≤_};
 ghost use lib.ListN.{length, getD, take};
-ghost use Rattle.lexis.specs.Sizes.{maxText, maxBrackets, maxOperations};
+ghost use Rattle.lexis.specs.Sizes.{maxText, maxBrackets, maxOperations, recordWords};
 ghost use Rattle.lexis.specs.Lexer.{Token};
 ghost use Rattle.syntax.specs.Symbol.{aName};
 ghost use Rattle.syntax.specs.Tree.{Param, Header};
@@ -32,7 +33,7 @@ ghost use Rattle.rules.specs.Fault.{fault, faults, starts, first};
 ghost use Rattle.rules.specs.Best.{meant};
 ghost use Rattle.rules.specs.Names.{repeatsAfter};
 ghost use Rattle.rules.specs.ListRules.{over, badDefault, listFaults};
-ghost use Rattle.rules.specs.Lists.{isA, Params, defaultFaults, ownFaults, endsHeader, Heads, Places, entries};
+ghost use Rattle.rules.specs.Lists.{isA, Params, defaultFaults, headerFaults, endsHeader, Heads, NamePlaces, entries};
 
 // ---- one parameter
 
@@ -44,7 +45,7 @@ fn misfit_at(text: &[u8], table: &[u32], n: usize, i: usize) -> Best
 {
     Best {
         at: place_at(text, table, n, i) as u32,
-        code: 14,
+        code: Code::BAD_DEFAULT,
         detail: 0,
     }
 }
@@ -97,13 +98,13 @@ fn header_rules(text: &[u8], table: &[u32], n: usize, q: usize) -> Best
     requires { ⌜ Holds (now text) (now table) n ⌝ }
     requires { ⌜ length (now text) ≤ maxText ⌝ }
     requires { ⌜ (q < n) × (0 < q) ⌝ }
-    ensures { λ r. ⌜ ((h : Header) (us : List Token) → header maxBrackets (toks (now (text .entry)) (now (table .entry)) n (q - 1)) ≡ ok h us → endsHeader us → meant r ≡ first (ownFaults h)) ⌝ }
+    ensures { λ r. ⌜ ((h : Header) (us : List Token) → header maxBrackets (toks (now (text .entry)) (now (table .entry)) n (q - 1)) ≡ ok h us → endsHeader us → meant r ≡ first (headerFaults h)) ⌝ }
 {
     let arrow = next_of(text, table, n, q + 1, Symbol::ARROW);
     let end = next_of(text, table, n, arrow, Symbol::FRAGMENT);
     let parameters = over(text, table, arrow, q + 1, Symbol::NAME, Limits::PARAMETERS);
     let results = over(text, table, end, arrow, Symbol::NAME, Limits::RESULTS);
-    let repeats = repeated(text, table, end, q + 1, end, 13);
+    let repeats = repeated(text, table, end, q + 1, end, Code::REPEATED_NAME);
     let misfits = defaults(text, table, n, q + 1, arrow);
     parameters
         .earlier(results)
@@ -116,7 +117,7 @@ fn header_rules(text: &[u8], table: &[u32], n: usize, q: usize) -> Best
 // The fault of the k-th operation, if its name repeats that of one before: code 13.
 fn repeat_of(text: &[u8], table: &[u32], n: usize, names: &[u32], k: usize) -> Best
     requires { ⌜ Holds (now text) (now table) n ⌝ }
-    requires { ⌜ Places n (now names) ⌝ }
+    requires { ⌜ NamePlaces n (now names) ⌝ }
     requires { ⌜ k < length (now names) ⌝ }
     ensures { λ r. ⌜ meant r ≡ first (faults 13 (starts (repeatsAfter (entries (now (text .entry)) (now (table .entry)) (take k (now (names .entry)))) (tokenAt (now (text .entry)) (now (table .entry)) (getD (now (names .entry)) k 0) ∷ [])))) ⌝ }
 {
@@ -126,15 +127,15 @@ fn repeat_of(text: &[u8], table: &[u32], n: usize, names: &[u32], k: usize) -> B
     };
     Best {
         at: start_at(table, q),
-        code: 13,
+        code: Code::REPEATED_NAME,
         detail: 0,
     }
 }
 
 // More than 128 operations: code 12 at the word `fragment` of the first beyond.
 fn too_many(table: &[u32], n: usize, names: &[u32]) -> Best
-    requires { ⌜ n * 3 ≤ length (now table) ⌝ }
-    requires { ⌜ Places n (now names) ⌝ }
+    requires { ⌜ n * recordWords ≤ length (now table) ⌝ }
+    requires { ⌜ NamePlaces n (now names) ⌝ }
     ensures { λ r. ⌜ meant r ≡ first (over maxOperations (map (λ q. startAt (now (table .entry)) (q - 1)) (now (names .entry)))) ⌝ }
 {
     if Limits::operations_fit(names.len()) {
@@ -142,7 +143,7 @@ fn too_many(table: &[u32], n: usize, names: &[u32]) -> Best
     }
     Best {
         at: start_at(table, word(names, Limits::OPERATIONS) - 1),
-        code: 12,
+        code: Code::OVER_SIZE,
         detail: 0,
     }
 }
@@ -151,7 +152,7 @@ fn too_many(table: &[u32], n: usize, names: &[u32]) -> Best
 pub fn list_rules(text: &[u8], table: &[u32], n: usize, names: &[u32]) -> Best
     requires { ⌜ Holds (now text) (now table) n ⌝ }
     requires { ⌜ length (now text) ≤ maxText ⌝ }
-    requires { ⌜ Places n (now names) ⌝ }
+    requires { ⌜ NamePlaces n (now names) ⌝ }
     ensures { λ r. ⌜ ((hs : List Header) → Heads (now (text .entry)) (now (table .entry)) n maxBrackets (now (names .entry)) hs → meant r ≡ first (listFaults hs)) ⌝ }
 {
     let mut best = too_many(table, n, names);

@@ -4,6 +4,7 @@ pub mod binding;
 pub mod body;
 pub mod calls;
 pub mod check;
+mod code;
 pub mod document;
 pub mod fitting;
 pub mod graph;
@@ -31,7 +32,7 @@ ghost use mathlib.Core.Path.{_≡_};
 ghost use Prim.Native.Nat.{_≤_};
 ghost use lib.ListN.{length, replicate};
 ghost use Rattle.lexis.specs.Sizes.{maxText, maxTokens, workWords};
-ghost use Rattle.rules.specs.Answer.{listStages, counted, declarationsAnswer, workAfter};
+ghost use Rattle.rules.specs.Answer.{listStages, stageAnswer, declarationsAnswer, workAfter};
 
 // The operation: whether an operation list is well formed, and how many operations it has. After any answer but a refusal of what is
 // lent the work area is zero.
@@ -64,7 +65,7 @@ pub fn declarations(list: &[u8], work: &mut [u32]) -> Answer
 fn list_answer(list: &[u8], work: &mut [u32]) -> Answer
     requires { ⌜ length (now list) ≤ maxText ⌝ }
     requires { ⌜ workWords ≤ length (now work) ⌝ }
-    ensures { λ r. ⌜ r ≡ counted (listStages (now (list .entry))) length ⌝ }
+    ensures { λ r. ⌜ r ≡ stageAnswer (listStages (now (list .entry))) length ⌝ }
     ensures { λ _. ⌜ length (now (work .exit)) ≡ length (now (work .entry)) ⌝ }
 {
     let classes = CLASSES;

@@ -30,9 +30,9 @@ fn rules_stage(text: &[u8], work: &mut [u32], n: usize) -> Listed
     let k = directory(text, &mut *work, n);
     let best = list_rules(
         text,
-        &work[0..Limits::TABLE_WORDS],
+        &work[0..Limits::SCRATCH_START],
         n,
-        &work[Limits::TABLE_WORDS..Limits::TABLE_WORDS + k],
+        &work[Limits::SCRATCH_START..Limits::SCRATCH_START + k],
     );
     if best.code == 0 {
         return Listed::Passed(n, k);

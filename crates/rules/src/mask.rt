@@ -1,5 +1,6 @@
 // Masks of parameters: bit k is parameter k.
 use super::best::Best;
+use crate::code::Code;
 ghost use mathlib.Core.Path.{_≡_};
 ghost use mathlib.Core.Bool.{Bool};
 ghost use mathlib.Core.List.{List, [], _∷_, _++_};
@@ -49,7 +50,7 @@ pub fn first_missing(required: u32, bound: u32, place: u32) -> Best
     }
     Best {
         at: place,
-        code: 19,
+        code: Code::UNBOUND,
         detail: u32::trailing_zeros(missing),
     }
 }

@@ -3,6 +3,7 @@ use crate::best::Best;
 use crate::word::alike;
 use crate::word::start_at;
 use crate::word::word;
+use lexis::limits::Limits;
 use lexis::word::same;
 use syntax::symbol::Symbol;
 use syntax::symbol::symbol_at;
@@ -24,8 +25,8 @@ pub fn spelt(text: &[u8], table: &[u32], n: usize, i: usize, spelling: &[u8]) ->
     requires { ⌜ i < n ⌝ }
     ensures { λ r. ⌜ r ≡ sameBytes (tokenAt (now (text .entry)) (now (table .entry)) i .bytes) (now (spelling .entry)) ⌝ }
 {
-    let start = word(table, i * 3 + 1);
-    let end = word(table, i * 3 + 2);
+    let start = word(table, i * Limits::RECORD_WORDS + 1);
+    let end = word(table, i * Limits::RECORD_WORDS + 2);
     same(&text[start..end], spelling)
 }
 

@@ -11,7 +11,7 @@ ghost use lib.ListN.{length};
 ghost use Rattle.lexis.specs.Sizes.{maxTokens, workWords};
 ghost use Rattle.syntax.specs.Tree.{Header};
 ghost use Rattle.syntax.specs.Table.{tokenAt, Holds};
-ghost use Rattle.rules.specs.Lists.{tableOf, HasList, Heads, Places, Directory, lookupFrom, entries};
+ghost use Rattle.rules.specs.Lists.{tableOf, HasList, Heads, NamePlaces, Directory, lookupFrom, entries};
 ghost use Rattle.rules.specs.Found.{found};
 
 // Where an operation stands in the directory.
@@ -30,11 +30,11 @@ pub fn directory(text: &[u8], work: &mut [u32], n: usize) -> usize
     let mut at = 0;
     let mut k = 0;
     while at < n {
-        work[Limits::TABLE_WORDS + k] = (at + 1) as u32;
+        work[Limits::SCRATCH_START + k] = (at + 1) as u32;
         k += 1;
         at = next_of(
             text,
-            &work[0..Limits::TABLE_WORDS],
+            &work[0..Limits::SCRATCH_START],
             n,
             at + 1,
             Symbol::FRAGMENT,
@@ -55,7 +55,7 @@ pub fn find(
     b: usize,
 ) -> Lookup
     requires { ⌜ Holds (now text) (now table) n ⌝ }
-    requires { ⌜ Places n (now names) ⌝ }
+    requires { ⌜ NamePlaces n (now names) ⌝ }
     requires { ⌜ Holds (now text2) (now table2) n2 ⌝ }
     requires { ⌜ b < n2 ⌝ }
     ensures spelt { λ r. ⌜ r ≡ lookupFrom 0 (entries (now (text .entry)) (now (table .entry)) (now (names .entry))) (tokenAt (now (text2 .entry)) (now (table2 .entry)) b) ⌝ }

@@ -1,5 +1,6 @@
 // Flat scans over a table for one terminal.
 use crate::best::Best;
+use crate::code::Code;
 use crate::word::start_at;
 use syntax::symbol::symbol_at;
 ghost use mathlib.Core.Path.{_≡_};
@@ -41,7 +42,7 @@ pub fn over(text: &[u8], table: &[u32], n: usize, at: usize, s: u32, size: usize
         if left == 0 {
             return Best {
                 at: start_at(table, i),
-                code: 12,
+                code: Code::OVER_SIZE,
                 detail: 0,
             };
         }

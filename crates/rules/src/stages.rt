@@ -36,7 +36,7 @@ fn rules_stage(
     requires { ⌜ workWords ≤ length (now work1) ⌝ }
     ensures { λ r. ⌜ BothDone (now (list .entry)) (now (doc .entry)) (now (work1 .entry)) (now (work2 .entry)) r ⌝ }
 {
-    let names = &work1[Limits::TABLE_WORDS..Limits::TABLE_WORDS + k];
+    let names = &work1[Limits::SCRATCH_START..Limits::SCRATCH_START + k];
     let best = document_rules(list, work1, n, names, doc, work2, m);
     if best.code != 0 {
         return Staged::Stopped(Answer {

@@ -17,7 +17,7 @@ ghost use Rattle.lexis.specs.Lexer.{Token};
 ghost use Rattle.syntax.specs.Tree.{Header, Call};
 ghost use Rattle.syntax.specs.Table.{tokenAt, toks, Holds};
 ghost use Rattle.rules.specs.Tables.{indexOf, callRecord};
-ghost use Rattle.rules.specs.Lists.{Heads, Places as NamePlaces};
+ghost use Rattle.rules.specs.Lists.{Heads, NamePlaces};
 ghost use Rattle.rules.specs.Scans.{namesAmong, usesAmong, usesHere};
 ghost use Rattle.rules.specs.Calls.{Calls, CallAt};
 ghost use Rattle.rules.specs.Checks.{Bodied};

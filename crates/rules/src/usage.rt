@@ -5,6 +5,7 @@ use crate::binding::argument_faults;
 use crate::binding::fault_at;
 use crate::calls::Places;
 use crate::calls::places_at;
+use crate::code::Code;
 use crate::document::own_faults;
 use crate::fitting::matches;
 use crate::graph::graph_at;
@@ -28,7 +29,7 @@ ghost use Rattle.rules.specs.Fault.{first};
 ghost use Rattle.rules.specs.Best.{meant};
 ghost use Rattle.rules.specs.ListRules.{listFaults};
 ghost use Rattle.rules.specs.DocumentRules.{documentFaults};
-ghost use Rattle.rules.specs.Lists.{ownFaults, Heads, Places as NamePlaces};
+ghost use Rattle.rules.specs.Lists.{headerFaults, Heads, NamePlaces};
 ghost use Rattle.rules.specs.Calls.{Calls, CallAt};
 ghost use Rattle.rules.specs.Operations.{operationFaults, boundFaults, leftFaults, Opened};
 
@@ -48,7 +49,7 @@ fn declared_faults(
     requires { ⌜ Holds (now ltext) (now ltable) ln ⌝ }
     requires { ⌜ Holds (now dtext) (now dtable) dn ⌝ }
     requires { ⌜ (q + 2 ≤ ln) × (at < dn) × (places .equal + 1 < dn) ⌝ }
-    ensures { λ r. ⌜ ((h : Header) (us : List Token) (c : Call) (ws : List Token) → 0 < q → header maxBrackets (toks (now (ltext .entry)) (now (ltable .entry)) ln (q - 1)) ≡ ok h us → first (ownFaults h) ≡ nothing →
+    ensures { λ r. ⌜ ((h : Header) (us : List Token) (c : Call) (ws : List Token) → 0 < q → header maxBrackets (toks (now (ltext .entry)) (now (ltable .entry)) ln (q - 1)) ≡ ok h us → first (headerFaults h) ≡ nothing →
         call maxBrackets (toks (now (dtext .entry)) (now (dtable .entry)) dn at) ≡ ok c ws → CallAt (now (dtext .entry)) (now (dtable .entry)) dn at places c ws → meant r ≡ first (boundFaults h c ++ leftFaults h c)) ⌝ }
 {
     let args = places.equal + 3;
@@ -56,7 +57,7 @@ fn declared_faults(
     let bound = argument_faults(dtext, dtable, dn, args, ltext, ltable, ln, q + 2, name);
     let results = next_of(ltext, ltable, ln, q + 1, Symbol::ARROW) + 2;
     let matched = matches(dtext, dtable, dn, at, ltext, ltable, ln, results);
-    bound.earlier(Best::fault_if(!matched, 20, start_at(dtable, at)))
+    bound.earlier(Best::fault_if(!matched, Code::UNMATCHED, start_at(dtable, at)))
 }
 
 // The first fault of the call at place `at` that needs the list.
@@ -85,7 +86,7 @@ fn operation_faults(
     }
     let found = find(ltext, ltable, ln, names, dtext, dtable, dn, name);
     let Lookup::At(k) = found else {
-        return fault_at(dtext, dtable, dn, name, 15);
+        return fault_at(dtext, dtable, dn, name, Code::UNDECLARED);
     };
     declared_faults(
         ltext,

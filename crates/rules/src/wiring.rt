@@ -2,6 +2,7 @@
 // with the scratch words behind it, for an index; the search here is linear.
 use crate::best::Best;
 use crate::calls::places_at;
+use crate::code::Code;
 use crate::names::seen;
 use crate::word::start_at;
 use lexis::limits::Limits;
@@ -117,7 +118,7 @@ fn listed_at(
     }
     let next = tally.count + 1;
     let place = start_at(table, i);
-    let beyond = Best::fault_if(tally.count == size, 12, place);
+    let beyond = Best::fault_if(tally.count == size, Code::OVER_SIZE, place);
     let unmade = Best::fault_if(is_unknown(text, table, n, body, until, i), code, place);
     Tally {
         best: tally.best.earlier(beyond.earlier(unmade)),
@@ -176,10 +177,14 @@ fn assigned_at(
     }
     let next = tally.count + 1;
     let place = start_at(table, i);
-    let beyond = Best::fault_if(tally.count == Limits::ASSIGNED, 12, place);
-    let again = Best::fault_if(is_again(text, table, n, body, at, i), 21, place);
+    let beyond = Best::fault_if(tally.count == Limits::ASSIGNED, Code::OVER_SIZE, place);
+    let again = Best::fault_if(
+        is_again(text, table, n, body, at, i),
+        Code::ASSIGNED_AGAIN,
+        place,
+    );
     let input = seen(text, table, n, 5, inputs, i);
-    let misfed = Best::fault_if(misfeeds(external, input), 23, place);
+    let misfed = Best::fault_if(misfeeds(external, input), Code::MISFED, place);
     Tally {
         best: tally.best.earlier(beyond.earlier(again.earlier(misfed))),
         count: next,
@@ -246,8 +251,12 @@ fn used_at(
     if is_use(text, table, n, to, i) {
         let next = tally.count + 1;
         let place = start_at(table, i);
-        let beyond = Best::fault_if(tally.count == Limits::USES, 12, place);
-        let unwired = Best::fault_if(is_unknown(text, table, n, body, at, i), 22, place);
+        let beyond = Best::fault_if(tally.count == Limits::USES, Code::OVER_SIZE, place);
+        let unwired = Best::fault_if(
+            is_unknown(text, table, n, body, at, i),
+            Code::UNASSIGNED_USE,
+            place,
+        );
         return Tally {
             best: tally.best.earlier(beyond.earlier(unwired)),
             count: next,

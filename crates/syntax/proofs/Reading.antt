@@ -8,8 +8,8 @@ use lib.Dec.{leb}
 use lib.ListN.{length}
 use borrow.Author.Tests.{leb-true, leb-false}
 use Rattle.lexis.specs.Lexer.{Token, Lexed, accepted, refused, lex}
-use Rattle.lexis.specs.Answer.{Written, Room, counted}
-use Rattle.lexis.specs.Sizes.{tokenWords}
+use Rattle.lexis.specs.Answer.{Recorded, Room, counted}
+use Rattle.lexis.specs.Sizes.{recordWords}
 use Rattle.lexis.specs.declared.Counted.{Counted}
 use Rattle.lexis.specs.declared.Counted.the-variants as C
 use Rattle.lexis.proofs.Theorems.{placed}
@@ -41,11 +41,11 @@ pub room-of : (m : ℕ) {x : Counted} {n : ℕ} → Room x m → x ≡ C.Tokens 
 room-of m room e = subst (λ (y : Counted). Room y m) e room
 
 module _ (text before after : List ℕ) where
-  got-by : (l : Lexed) (n : ℕ) → lex text ≡ l → C.Tokens n ≡ counted l → Written l before after → n * tokenWords ≤ length before → Got text after n
+  got-by : (l : Lexed) (n : ℕ) → lex text ≡ l → C.Tokens n ≡ counted l → Recorded l before after → n * recordWords ≤ length before → Got text after n
   got-by (accepted ts) n e h w room =
       let m : n ≡ length ts = let z : n ≡ 0 + length ts = cc in omega arith in
       let p = placed text ts e in
-      let r : length ts * tokenWords ≤ length before = omega arith in
+      let r : length ts * recordWords ≤ length before = omega arith in
       record {
         tokens = ts;
         is = e;
@@ -55,7 +55,7 @@ module _ (text before after : List ℕ) where
       }
   got-by (refused c p) n e h w room = let z : _≡_ {A = ℕ} 0 1 = cc in absurd (omega arith)
 
-  pub got : (x : Counted) (n : ℕ) → x ≡ counted (lex text) → Written (lex text) before after → Room x (length before) → x ≡ C.Tokens n → Got text after n
+  pub got : (x : Counted) (n : ℕ) → x ≡ counted (lex text) → Recorded (lex text) before after → Room x (length before) → x ≡ C.Tokens n → Got text after n
   got x n h w room e = got-by (lex text) n refl (sym e ∙ h) w (room-of (length before) room e .1)
 
 -- ---- answers

@@ -4,7 +4,7 @@ use Prim.Native.Nat.{ℕ, zero, suc, _+_, _-_, _*_, _<_, _≤_}
 use mathlib.Core.List.{List, [], _∷_}
 use lib.ListN.{length, getD, take, drop}
 use Rattle.lexis.specs.Lexer.{Token}
-use Rattle.lexis.specs.Sizes.{tokenWords}
+use Rattle.lexis.specs.Sizes.{recordWords}
 use Rattle.syntax.specs.Parser.{Parse}
 use Rattle.syntax.specs.Parser.Parse.{ok, bad}
 use Rattle.syntax.specs.declared.Parsed.{Parsed}
@@ -12,13 +12,13 @@ use Rattle.syntax.specs.declared.Parsed.the-variants.{Done, Fault}
 
 -- kind, start and end after the last byte of the token at place i
 abbrev pub kindAt : List ℕ → ℕ → ℕ
-kindAt table i = getD table (i * tokenWords) 0
+kindAt table i = getD table (i * recordWords) 0
 
 abbrev pub startAt : List ℕ → ℕ → ℕ
-startAt table i = getD table (i * tokenWords + 1) 0
+startAt table i = getD table (i * recordWords + 1) 0
 
 abbrev pub endAt : List ℕ → ℕ → ℕ
-endAt table i = getD table (i * tokenWords + 2) 0
+endAt table i = getD table (i * recordWords + 2) 0
 
 -- the token at place i of a table over a text
 unfoldable pub tokenAt : List ℕ → List ℕ → ℕ → Token
@@ -36,7 +36,7 @@ toks text table n i = tokensFrom text table i (n - i)
 
 -- the table has n records, each of a token that is not empty and lies in the text
 pub record Holds (text table : List ℕ) (n : ℕ) : Type 0 where
-  pub room : n * tokenWords ≤ length table
+  pub room : n * recordWords ≤ length table
   pub within : (i : ℕ) → i < n → (startAt table i < endAt table i) × (endAt table i ≤ length text)
 
 -- the place of a fault: its token's start, or the text's end

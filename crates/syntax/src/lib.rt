@@ -13,10 +13,10 @@ use operations::list_syntax;
 ghost use mathlib.Core.Path.{_≡_};
 ghost use Prim.Native.Nat.{_*_, _≤_, min};
 ghost use lib.ListN.{length};
-ghost use Rattle.lexis.specs.Answer.{Written, Room};
+ghost use Rattle.lexis.specs.Answer.{Recorded, Room};
 ghost use Rattle.lexis.specs.Bytes.{classTable};
 ghost use Rattle.lexis.specs.Lexer.{lex};
-ghost use Rattle.lexis.specs.Sizes.{maxText, maxTokens, tokenWords};
+ghost use Rattle.lexis.specs.Sizes.{maxText, maxTokens, recordWords};
 ghost use Rattle.syntax.specs.Table.{toks, Holds};
 ghost use Rattle.syntax.specs.Read.{syntaxOf, readOf};
 
@@ -55,9 +55,9 @@ fn syntax_of(text: &[u8], table: &[u32], n: usize, which: Syntax) -> Parsed
 pub fn read(classes: &[u8; 256], text: &[u8], work: &mut [u32], which: Syntax) -> Counted
     requires { ⌜ now classes ≡ classTable ⌝ }
     requires { ⌜ length (now text) ≤ maxText ⌝ }
-    requires { ⌜ tokenWords * min (length (now text)) maxTokens ≤ length (now work) ⌝ }
+    requires { ⌜ recordWords * min (length (now text)) maxTokens ≤ length (now work) ⌝ }
     ensures { λ r. ⌜ r ≡ readOf which (now (text .entry)) ⌝ }
-    ensures { λ _. ⌜ Written (lex (now (text .entry))) (now (work .entry)) (now (work .exit)) ⌝ }
+    ensures { λ _. ⌜ Recorded (lex (now (text .entry))) (now (work .entry)) (now (work .exit)) ⌝ }
     ensures { λ r. ⌜ Room r (length (now (work .entry))) ⌝ }
 {
     let found = lex_into(classes, text, &mut *work);

@@ -163,7 +163,7 @@ pub fn symbol_at(text: &[u8], table: &[u32], n: usize, at: usize) -> u32
     if n <= at {
         return Symbol::END;
     }
-    let word = at * Limits::TOKEN_WORDS;
+    let word = at * Limits::RECORD_WORDS;
     symbol_of(
         text,
         table[word],
@@ -180,7 +180,7 @@ pub fn place_at(text: &[u8], table: &[u32], n: usize, at: usize) -> usize
     if n <= at {
         return text.len();
     }
-    size(table[at * Limits::TOKEN_WORDS + 1])
+    size(table[at * Limits::RECORD_WORDS + 1])
 }
 
 // The fault of this code at the token at place `at`.

@@ -4,7 +4,7 @@ use lib.ListN.{length}
 use Rattle.lexis.specs.Answer.{answer}
 use Rattle.lexis.specs.Bytes.{classOf, classesFrom, classTable}
 use Rattle.syntax.specs.Tree.{Header}
-use Rattle.rules.specs.Answer.{Stage, counted}
+use Rattle.rules.specs.Answer.{Stage, stageAnswer}
 use Rattle.rules.proofs.ListStages.{passed-is, stopped-is}
 use native.Mathlib.Omega.{arith}
 use mathlib.Core.Path.{_≡_, refl, sym, ap, ap₂, _∙_}
@@ -41,7 +41,7 @@ returns : tie.Need-returns
 returns c =
     let e = c .before .before .before .before .before .list-stages .ensures in
     let p = passed-is (e .0) (c .before .-n .given .1) in
-    (sym (ap (λ (s : Stage (List Header)). counted s length) (p .stages) ∙ ap (λ (k : ℕ). answer 0 0 0 k) (p .count)), e .1)
+    (sym (ap (λ (s : Stage (List Header)). stageAnswer s length) (p .stages) ∙ ap (λ (k : ℕ). answer 0 0 0 k) (p .count)), e .1)
 
 -- src/lib.rt:51:1
 same-length-2 : tie.Need-same-length-2
@@ -51,7 +51,7 @@ same-length-2 c = search needs
 returns-2 : tie.Need-returns-2
 returns-2 c =
     let e = c .before .before .before .before .before .list-stages .ensures in
-    (sym (ap (λ (s : Stage (List Header)). counted s length) (stopped-is (c .before .before .before .before .before .before .before .before .before .before .args .list .now) _ (c .before .before .before .before .before .list-stages .result) (e .0) (c .before .r .given .1))), e .1)
+    (sym (ap (λ (s : Stage (List Header)). stageAnswer s length) (stopped-is (c .before .before .before .before .before .before .before .before .before .before .args .list .now) _ (c .before .before .before .before .before .list-stages .result) (e .0) (c .before .r .given .1))), e .1)
 
 pub list-answer-spec : {M : Type 1} → statement M
 list-answer-spec =

@@ -1,7 +1,7 @@
 -- The measure is the number. Its last digit follows the digits before it.
 use Prim.Native.Nat.{ℕ, _<_, _/_}
 use borrow.Author.Needs.{needs}
-use Rattle.canonical.specs.Spelling.{digits}
+use Rattle.canonical.specs.Spelling.{decimal}
 use Rattle.canonical.proofs.Putting.{stores-byte, stores-then}
 use Rattle.canonical.proofs.Spelled.{digits-one, digits-more}
 use borrow.Fn.Kinds.{In}
@@ -115,7 +115,7 @@ put-digits-returns-2 : (t : ℕ) → put-digits-lts.Need-returns-2 (
 put-digits-returns-2 t c =
     let s = c .before .before .before .before .before .before .before .before .before .before .args in
     let p = c .before .before .before .before .before .before .put-digits in
-    rw (digits-more (s .n) (c .before .before .before .before .before .before .before .before .if1 .left)) (stores-then (s .out .now) (s .at) (digits (s .n / 10)) _ (p .ensures) (stores-byte (p .last .0) (p .result) _ (c .before .before .put-byte2 .ensures)))
+    rw (digits-more (s .n) (c .before .before .before .before .before .before .before .before .if1 .left)) (stores-then (s .out .now) (s .at) (decimal (s .n / 10)) _ (p .ensures) (stores-byte (p .last .0) (p .result) _ (c .before .before .put-byte2 .ensures)))
 
 pub +put-digits-spec : {M : Type 1} → statement M
 +put-digits-spec = close μ-put-digits λ t. put-digits-lts.spec (

@@ -2,7 +2,7 @@
 use mathlib.Core.List.{[], _∷_}
 use mir.Facts.{toZ-ofZ}
 use Rattle.lexis.specs.Ascii.{byte}
-use Rattle.canonical.specs.Spelling.{digits, spellExponent, spellNumber}
+use Rattle.canonical.specs.Spelling.{decimal, spellExponent, spellNumber}
 use Rattle.canonical.proofs.Putting.{stores-byte, stores-then, puts-word}
 use borrow.Author.Needs.{needs}
 use Rattle.canonical.proofs.spelling.put_reduced.Statement.{statement}
@@ -31,7 +31,7 @@ returns c =
     let letter = c .before .before .before .before .before .before .before .put-byte in
     let power = rw (toZ-ofZ (c .before .before .before .before .before .before .before .before .before .before .before .before .before .before .fits .exponent)) at (c .before .before .before .put-exponent .ensures) in
     let e = stores-then (whole .last .0) (whole .result) (byte "e" ∷ []) (spellExponent (s .exponent)) (stores-byte (whole .last .0) (whole .result) (byte "e") (letter .ensures)) power in
-    let f = stores-then (s .out .now) (s .s .bytes) (digits (s .mantissa)) (byte "e" ∷ spellExponent (s .exponent)) (whole .ensures) e in
+    let f = stores-then (s .out .now) (s .s .bytes) (decimal (s .mantissa)) (byte "e" ∷ spellExponent (s .exponent)) (whole .ensures) e in
     puts-word _ (f .1) (f .0) (c .next-token .ensures)
 
 pub put-reduced-spec : {M : Type 1} → statement M

@@ -1,14 +1,14 @@
 use borrow.Author.Tests.{ne-eqb}
-use Rattle.rules.specs.Fitting.{closes}
+use Rattle.rules.specs.Fitting.{roundsClosed}
 use Rattle.rules.proofs.fitting.closes.Statement.{statement}
 use Rattle.rules.proofs.fitting.closes.Tie as tie
 
 returns : tie.Need-returns
-unfolding closes
+unfolding roundsClosed
 returns c = simp (c .if1 .taken)
 
 returns-2 : tie.Need-returns-2
-unfolding closes
+unfolding roundsClosed
 returns-2 c = simp (ne-eqb _ _ (c .if1 .left))
 
 pub closes-spec : {M : Type 1} → statement M

@@ -5,13 +5,13 @@ use Prim.Native.Nat.{_+_, _-_, _≤_, _<_}
 use native.Mathlib.Omega.{arith}
 use borrow.Author.Needs.{needs}
 use Rattle.syntax.specs.Table.{toks}
-use Rattle.rules.specs.Fitting.{walk}
+use Rattle.rules.specs.Fitting.{typeWalk}
 use Rattle.rules.proofs.TypeTokens.{opens-le, closes-le, walk-none, walk-ends, walk-goes}
 use Rattle.rules.proofs.fitting.inside.Statement.{statement}
 use Rattle.rules.proofs.fitting.inside.Tie as tie
 
 abbrev Inv-loop : tie.InvT-loop
-Inv-loop text table n at depth₀ tensor₀ i₀ depth tensor i = (i ≤ n) × (0 < depth) × (depth ≤ i + 1) × (walk 1 true (toks text table n at) ≡ walk depth tensor (toks text table n i))
+Inv-loop text table n at depth₀ tensor₀ i₀ depth tensor i = (i ≤ n) × (0 < depth) × (depth ≤ i + 1) × (typeWalk 1 true (toks text table n at) ≡ typeWalk depth tensor (toks text table n i))
 
 abbrev μ-loop : tie.MeasureT-loop
 μ-loop text table n at depth₀ tensor₀ i₀ depth tensor i = n - i

@@ -1,14 +1,14 @@
 use borrow.Author.Tests.{ne-eqb}
-use Rattle.rules.specs.Fitting.{opens}
+use Rattle.rules.specs.Fitting.{roundsOpened}
 use Rattle.rules.proofs.fitting.opens.Statement.{statement}
 use Rattle.rules.proofs.fitting.opens.Tie as tie
 
 returns : tie.Need-returns
-unfolding opens
+unfolding roundsOpened
 returns c = simp (c .if1 .taken)
 
 returns-2 : tie.Need-returns-2
-unfolding opens
+unfolding roundsOpened
 returns-2 c = simp (ne-eqb _ _ (c .if1 .left))
 
 pub opens-spec : {M : Type 1} → statement M

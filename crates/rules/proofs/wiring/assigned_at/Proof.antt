@@ -1,6 +1,6 @@
 use Rattle.rules.proofs.NameTallies.{skip-fault, take-fault, skip-count, take-count, two, tested, same-count}
 use Rattle.rules.proofs.NameScans.{is-name, no-name, those-one, those-none}
-use Rattle.rules.specs.Walks.{beyond, passing, repeating, both, assigning, misfeeds}
+use Rattle.rules.specs.Walks.{beyond, passing, repeating, bothRules, assigning, misfeeds}
 use Rattle.rules.specs.Scans.{isName, namesAmong}
 use Rattle.rules.specs.Names.{isAmong, allAssigned}
 use Rattle.rules.specs.Best.{meant}
@@ -88,7 +88,7 @@ returns-2 c = (
       let feed : Token → Bool = λ t. misfeeds (c .before .before .before .before .before .before .before .before .before .before .before .before .before .before .before .before .args .external) (isAmong (namesAmong (toks (c .before .before .before .before .before .before .before .before .before .before .before .before .before .before .before .before .args .text .now) (c .before .before .before .before .before .before .before .before .before .before .before .before .before .before .before .before .args .table .now) (c .before .before .before .before .before .before .before .before .before .before .before .before .before .before .before .before .args .inputs) 5)) t) in (
         c .earlier3 .ensures
             ∙ ap (earlier (meant (c .before .before .before .before .before .before .before .before .before .before .before .before .before .before .before .before .args .tally .best))) (take-fault (assigning (namesAmong (toks (c .before .before .before .before .before .before .before .before .before .before .before .before .before .before .before .before .args .text .now) (c .before .before .before .before .before .before .before .before .before .before .before .before .before .before .before .before .args .table .now) (c .before .before .before .before .before .before .before .before .before .before .before .before .before .before .before .before .args .inputs) 5)) (c .before .before .before .before .before .before .before .before .before .before .before .before .before .before .before .before .args .external)) ss t (those-one isName (tokenAt (c .before .before .before .before .before .before .before .before .before .before .before .before .before .before .before .before .args .text .now) (c .before .before .before .before .before .before .before .before .before .before .before .before .before .before .before .before .args .table .now) (c .before .before .before .before .before .before .before .before .before .before .before .before .before .before .before .before .args .i)) (is-name (c .before .before .before .before .before .before .before .before .before .before .before .before .before .before .before .before .args .text .now) (c .before .before .before .before .before .before .before .before .before .before .before .before .before .before .before .before .args .table .now) (c .before .before .before .before .before .before .before .before .before .before .before .before .before .before .before .before .args .n) (c .before .before .before .before .before .before .before .before .before .before .before .before .before .before .before .before .args .i) (c .before .before .before .before .before .before .before .before .before .before .before .before .before .before .before .before .pre .1 .1) (c .before .before .before .before .before .before .before .before .before .before .before .before .before .symbol-at .ensures) (c .before .before .before .before .before .before .before .before .before .before .before .before .if1 .left)))
-            (two (beyond 1024) (both (repeating 21) (passing 23 feed)) ss t (tested 12 (c .before .before .before .before .before .before .before .before .fault-if .ensures) (same-count 1024 ss e) (c .before .before .before .before .before .before .before .before .before .before .start-at .ensures))
+            (two (beyond 1024) (bothRules (repeating 21) (passing 23 feed)) ss t (tested 12 (c .before .before .before .before .before .before .before .before .fault-if .ensures) (same-count 1024 ss e) (c .before .before .before .before .before .before .before .before .before .before .start-at .ensures))
             (two (repeating 21) (passing 23 feed) ss t (tested 21 (c .before .before .before .before .before .before .fault-if2 .ensures) (c .before .before .before .before .before .before .before .is-again .ensures b cs h) (c .before .before .before .before .before .before .before .before .before .before .start-at .ensures))
             (tested 23 (c .before .before .before .fault-if3 .ensures) (c .before .before .before .before .misfeeds .ensures ∙ ap (misfeeds (c .before .before .before .before .before .before .before .before .before .before .before .before .before .before .before .before .args .external)) (c .before .before .before .before .before .seen .ensures)) (c .before .before .before .before .before .before .before .before .before .before .start-at .ensures)) (c .before .before .earlier .ensures)) (c .before .earlier2 .ensures))),
         take-count ss e t (those-one isName (tokenAt (c .before .before .before .before .before .before .before .before .before .before .before .before .before .before .before .before .args .text .now) (c .before .before .before .before .before .before .before .before .before .before .before .before .before .before .before .before .args .table .now) (c .before .before .before .before .before .before .before .before .before .before .before .before .before .before .before .before .args .i)) (is-name (c .before .before .before .before .before .before .before .before .before .before .before .before .before .before .before .before .args .text .now) (c .before .before .before .before .before .before .before .before .before .before .before .before .before .before .before .before .args .table .now) (c .before .before .before .before .before .before .before .before .before .before .before .before .before .before .before .before .args .n) (c .before .before .before .before .before .before .before .before .before .before .before .before .before .before .before .before .args .i) (c .before .before .before .before .before .before .before .before .before .before .before .before .before .before .before .before .pre .1 .1) (c .before .before .before .before .before .before .before .before .before .before .before .before .before .symbol-at .ensures) (c .before .before .before .before .before .before .before .before .before .before .before .before .if1 .left))),
