@@ -49,11 +49,11 @@ find-each P (g ∷ hs) t h a e = go (sameBytes (g .name .bytes) (t .bytes)) e (f
     go true e r = let q : g ≡ h = cc in rw q at (a .0)
     go false e r = r e
 
-pub found-clean : (hs : List Header) (t : Token) (h : Header) → listFaults hs ≡ [] → find hs t ≡ some h → L.ownFaults h ≡ []
+pub found-clean : (hs : List Header) (t : Token) (h : Header) → listFaults hs ≡ [] → find hs t ≡ some h → L.headerFaults h ≡ []
 unfolding first
 found-clean hs t h n e =
-    let o = flat-none L.ownFaults hs (first-none (flatMap L.ownFaults hs) (own-clean hs (ap first n))) in
-    find-each (λ (g : Header). L.ownFaults g ≡ []) hs t h o e
+    let o = flat-none L.headerFaults hs (first-none (flatMap L.headerFaults hs) (own-clean hs (ap first n))) in
+    find-each (λ (g : Header). L.headerFaults g ≡ []) hs t h o e
 
 -- ---- parameters
 
@@ -100,7 +100,7 @@ values-some place k (p ∷ ps) vs xs d f m =
 -- ---- calls and documents
 
 call-some : (hs : List Header) (c : Call) → listFaults hs ≡ [] → operationFaults hs c ≡ [] → (p : PlanCall) × (planCall hs c ≡ some p)
-unfolding planCall L.ownFaults first
+unfolding planCall L.headerFaults first
 call-some hs c l n = go (find hs (c .op)) refl
   where
     none : first (operationFaults hs c) ≡ nothing

@@ -25,7 +25,7 @@ clash : _≡_ {A = ℕ} 0 1 → ⊥
 clash z = omega arith
 
 -- the stages of text k by a reader and its rules
-abbrev stages : {A : Type 0} → ℕ → Reader A → (A → List Fault) → List ℕ → Stage A
+abbrev pub stages : {A : Type 0} → ℕ → Reader A → (A → List Fault) → List ℕ → Stage A
 stages k f faultsOf text =
     andThen (bytesStage k (lex text)) (λ ts.
     andThen (syntaxStage k text (f ts)) (λ a.

@@ -182,10 +182,10 @@ module _ (dtext dtable : List ℕ) (dn : ℕ) (ltext ltable : List ℕ) (ln para
   pub record Summed (ps : List Param) (xs : List Arg) (us : List Token) (i k : ℕ) (s : Tally) : Type 0 where
     pub passed : List Arg
     pub left : List Arg
-    pub split : xs ≡ tallyFaults ++ left
+    pub split : xs ≡ passed ++ left
     pub reads : Row i left us
-    pub count : k ≡ length tallyFaults
-    pub tally : Tallies ps tallyFaults s
+    pub count : k ≡ length passed
+    pub tally : Tallies ps passed s
 
   abbrev pub Sums : ℕ → ℕ → Tally → Type 0
   Sums i k s = (ps : List Param) (xs : List Arg) (us : List Token) → Declared ltext ltable ln params ps → Row args xs us → Summed ps xs us i k s
@@ -209,7 +209,7 @@ module _ (dtext dtable : List ℕ) (dn : ℕ) (ltext ltable : List ℕ) (ln para
         go : (w : Summed ps xs us i k s) → GoesOn (argument maxBrackets) dtext dtable dn i (w .left) us (Item j) → Summed ps xs us j (k + 1) r
         go w (more {x = x} {ys = ys} e a q) =
             record {
-              tallyFaults = w .passed ++ (x ∷ []);
+              passed = w .passed ++ (x ∷ []);
               left = ys;
               split = w .split ∙ ap (λ (zs : List Arg). w .passed ++ zs) e ∙ sym (append-assoc (w .passed) (x ∷ []) ys);
               reads = q;

@@ -30,17 +30,20 @@ use Rattle.rules.specs.ListRules.{listFaults}
 use Rattle.rules.specs.DocumentRules.{documentFaults}
 use Rattle.rules.specs.Lists.{Heads, NamePlaces}
 use Rattle.rules.specs.Operations.{Opened}
-use Rattle.rules.specs.Answer.{Stage, pass, stop, andThen, bytesStage, syntaxStage, rulesStage, listStages, documentStages}
+use Rattle.rules.specs.Answer.{Stage, pass, stop, andThen, bytesStage, syntaxStage, rulesStage, listStages, documentStages, Checked, bothStages}
 use Rattle.rules.specs.Stages.{directoryOf, ListPassed, DocumentRead, BothPassed, BothDone}
 use Rattle.rules.specs.declared.best.Best.{Best}
 use Rattle.rules.specs.declared.stages.Staged.{Staged}
 use Rattle.rules.specs.declared.stages.Staged.the-variants.{Passed, Stopped}
 use Rattle.rules.proofs.Acceptance.{passed}
 use Rattle.rules.proofs.Declared.{heads-open}
-use Rattle.rules.proofs.DocumentCodes.{joined}
 use Rattle.rules.proofs.Storing.{heads-count}
 
 -- ---- what has passed has no fault
+
+-- what both stages give together
+abbrev pub joined : List Header → Document → Stage Checked
+joined hs d = pass (record { headers = hs; document = d })
 
 pub list-clean : (text : List ℕ) (hs : List Header) → listStages text ≡ pass hs → first (listFaults hs) ≡ nothing
 unfolding listStages first

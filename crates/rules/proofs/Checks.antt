@@ -1,24 +1,26 @@
 -- From what the stages of both texts come to, to the answer of `check` and both tables. Relies on `BothStages` for the stages.
-use mathlib.Core.Path.{_≡_, refl, sym, ap, ap₂, subst, _∙_}
-use mathlib.Core.Bool.{Bool, true, false, _&&_}
+use mathlib.Core.Path.{_≡_, refl, sym, ap, subst, _∙_}
+use mathlib.Core.Bool.{true, false, _&&_, and-eq-true-iff}
 use mathlib.Core.List.{List}
 use Prim.Native.Nat.{ℕ, _≤_}
-use native.Mathlib.Omega.{arith}
 use lib.Dec.{leb}
-use lib.ListN.{length}
+use lib.ListN.{length, replicate}
 use lib.Seq.{sets}
 use borrow.Author.Tests.{leb-true}
 use Rattle.lexis.specs.Sizes.{maxText, maxBrackets, workWords, callWords, wireWords}
+use Rattle.lexis.specs.Code as Code
 use Rattle.lexis.specs.Answer.{answer}
 use Rattle.lexis.specs.declared.Answer.{Answer}
 use Rattle.syntax.specs.Tree.{Header}
 use Rattle.rules.specs.Tables.{callTable, wireTable}
-use Rattle.rules.specs.Answer.{Stage, stop, stageAnswer, guard, short, checked, checkAnswer, Checked, callsAfter, wiresAfter, workAfter}
+use Rattle.rules.specs.Answer.{Stage, stop, bothStages, CheckRoom, checkRoom, checkServes, checked, callCount, checkAnswer, Checked, callsAfter, wiresAfter, workAfter}
 use Rattle.rules.specs.Stages.{DocumentPassed, BothPassed}
 use Rattle.rules.specs.Graphs.{GraphAt}
 use Rattle.rules.specs.Checks.{Ended, Bodied}
 use Rattle.rules.specs.declared.graph.Graph.{Graph}
 use Rattle.rules.proofs.DocumentFaults.{few-calls, few-uses}
+use Rattle.rules.proofs.Guards.{guard-room, guard-list, guard-document, guard-none, isGuard, kept, cleared-after}
+use Rattle.rules.proofs.Refusals.{both-codes}
 use Rattle.rules.proofs.BothStages.{document-clean, both-under}
 
 -- ---- what the stages end in
@@ -44,59 +46,49 @@ body-passed {hs} {text} p a =
     let z = document-clean hs text (p .document) (p .stages) in
     record { calls = p .document .calls; are = a .calls; few = few-calls hs (p .document) z; uses = few-uses hs (p .document) z }
 
--- ---- the guards
+-- ---- the guards and the end
 
-both-true : (a b : Bool) → (a && b) ≡ true → (a ≡ true) × (b ≡ true)
-both-true true b h = (refl, h)
-both-true false b h = let z : _≡_ {A = ℕ} 0 1 = cc in absurd (omega arith)
+module _ (list doc work₁ work₂ calls wires : List ℕ) where
+  abbrev room : CheckRoom
+  room = checkRoom work₁ work₂ calls wires
 
-module _ (list doc : List ℕ) (work₁ work₂ calls wires : ℕ) where
-  abbrev pub room : Bool
-  room = leb workWords work₁ && (leb workWords work₂ && (leb callWords calls && leb wireWords wires))
-
-  pub stages-short : room ≡ false → checked list doc work₁ work₂ calls wires ≡ stop (answer 1 0 0 0)
-  unfolding checked bothStages
-  stages-short e = ap (λ (b : Bool). guard b (answer 1 0 0 0) (short 1 list (short 2 doc (bothStages list doc)))) e
-
-  pub stages-long : room ≡ true → leb (length list) maxText ≡ false → checked list doc work₁ work₂ calls wires ≡ stop (answer 2 1 maxText 0)
-  unfolding checked bothStages
-  stages-long e f = ap₂ (λ (a b : Bool). guard a (answer 1 0 0 0) (guard b (answer 2 1 maxText 0) (short 2 doc (bothStages list doc)))) e f
-
-  both-short : room ≡ true → leb (length list) maxText ≡ true → checked list doc work₁ work₂ calls wires ≡ short 2 doc (bothStages list doc)
-  unfolding checked bothStages
-  both-short e f = ap₂ (λ (a b : Bool). guard a (answer 1 0 0 0) (guard b (answer 2 1 maxText 0) (short 2 doc (bothStages list doc)))) e f
-
-  pub stages-long-too : room ≡ true → leb (length list) maxText ≡ true → leb (length doc) maxText ≡ false → checked list doc work₁ work₂ calls wires ≡ stop (answer 2 2 maxText 0)
-  stages-long-too e f g = both-short e f ∙ ap (λ (c : Bool). guard c (answer 2 2 maxText 0) (bothStages list doc)) g
-
-  pub stages-good : room ≡ true → leb (length list) maxText ≡ true → leb (length doc) maxText ≡ true → checked list doc work₁ work₂ calls wires ≡ bothStages list doc
-  stages-good e f g = both-short e f ∙ ap (λ (c : Bool). guard c (answer 2 2 maxText 0) (bothStages list doc)) g
-
-  pub refused-with : {r : Answer} → checked list doc work₁ work₂ calls wires ≡ stop r → r ≡ checkAnswer list doc work₁ work₂ calls wires
-  unfolding checkAnswer
-  refused-with e = sym (ap (λ (s : Stage Checked). stageAnswer s (λ k. length (k .document .calls))) e)
-
-  pub answered-with : {r : Answer} → checked list doc work₁ work₂ calls wires ≡ bothStages list doc → r ≡ stageAnswer (bothStages list doc) (λ k. length (k .document .calls)) → r ≡ checkAnswer list doc work₁ work₂ calls wires
-  unfolding checkAnswer
-  answered-with e h = h ∙ sym (ap (λ (s : Stage Checked). stageAnswer s (λ k. length (k .document .calls))) e)
-
-  pub calls-kept : {r : Answer} (table : List ℕ) → checked list doc work₁ work₂ calls wires ≡ stop r → table ≡ callsAfter (checked list doc work₁ work₂ calls wires) table
-  unfolding callsAfter
-  calls-kept table e = sym (ap (λ (s : Stage Checked). callsAfter s table) e)
-
-  pub wires-kept : {r : Answer} (table : List ℕ) → checked list doc work₁ work₂ calls wires ≡ stop r → table ≡ wiresAfter (checked list doc work₁ work₂ calls wires) table
-  unfolding wiresAfter
-  wires-kept table e = sym (ap (λ (s : Stage Checked). wiresAfter s table) e)
-
-  -- the four rooms
-  pub room-parts : room ≡ true → (workWords ≤ work₁) × (workWords ≤ work₂) × (callWords ≤ calls) × (wireWords ≤ wires)
+  pub room-parts : checkServes room ≡ true → (workWords ≤ length work₁) × (workWords ≤ length work₂) × (callWords ≤ length calls) × (wireWords ≤ length wires)
   room-parts e =
-      let a = both-true (leb workWords work₁) (leb workWords work₂ && (leb callWords calls && leb wireWords wires)) e in
-      let b = both-true (leb workWords work₂) (leb callWords calls && leb wireWords wires) (a .1) in
-      let c = both-true (leb callWords calls) (leb wireWords wires) (b .1) in
-      (leb-true workWords work₁ (a .0), leb-true workWords work₂ (b .0), leb-true callWords calls (c .0), leb-true wireWords wires (c .1))
+      let a = and-eq-true-iff (leb workWords (length work₁)) (leb workWords (length work₂) && (leb callWords (length calls) && leb wireWords (length wires))) .0 e in
+      let b = and-eq-true-iff (leb workWords (length work₂)) (leb callWords (length calls) && leb wireWords (length wires)) .0 (a .1) in
+      let c = and-eq-true-iff (leb callWords (length calls)) (leb wireWords (length wires)) .0 (b .1) in
+      (leb-true workWords (length work₁) (a .0), leb-true workWords (length work₂) (b .0), leb-true callWords (length calls) (c .0), leb-true wireWords (length wires) (c .1))
 
--- after code 2 a work area is as it was
-pub long-kept : {n : ℕ} {r : Answer} (work : List ℕ) → r ≡ answer 2 n maxText 0 → work ≡ workAfter r work
-unfolding workAfter
-long-kept work e = sym (ap (λ (x : Answer). workAfter x work) e)
+  -- what check ensures of its answer, of both tables and of both work areas afterwards
+  abbrev Ensured : Answer → List ℕ → List ℕ → List ℕ → List ℕ → Type 0
+  Ensured r calls' wires' work₁' work₂' =
+      (r ≡ checkAnswer list doc room)
+      × ((calls' ≡ callsAfter (checked list doc room) calls) × ((wires' ≡ wiresAfter (checked list doc room) wires) × ((work₁' ≡ workAfter r work₁) × (work₂' ≡ workAfter r work₂))))
+
+  -- a refusal by a guard
+  refused : {q r : Answer} → checked list doc room ≡ stop q → isGuard (q .code) ≡ true → r ≡ q → Ensured r calls wires work₁ work₂
+  unfolding checkAnswer callsAfter wiresAfter
+  refused e h a = (rw e a, (rw e, (rw e, (kept work₁ h a, kept work₂ h a))))
+
+  pub refused-room : {r : Answer} → checkServes room ≡ false → r ≡ answer Code.shortTable 0 0 0 → Ensured r calls wires work₁ work₂
+  unfolding checked
+  refused-room e a = refused (guard-room list doc (bothStages list doc) e) refl a
+
+  pub refused-list : {r : Answer} → checkServes room ≡ true → leb (length list) maxText ≡ false → r ≡ answer Code.longText 1 maxText 0 → Ensured r calls wires work₁ work₂
+  unfolding checked
+  refused-list e f a = refused (guard-list list doc (bothStages list doc) e f) refl a
+
+  pub refused-document : {r : Answer} → checkServes room ≡ true → leb (length list) maxText ≡ true → leb (length doc) maxText ≡ false → r ≡ answer Code.longText 2 maxText 0 → Ensured r calls wires work₁ work₂
+  unfolding checked
+  refused-document e f g a = refused (guard-document list doc (bothStages list doc) e f g) refl a
+
+  -- the stages after the guards, then both work areas are cleared
+  pub ended : {r : Answer} {calls' wires' work₁' work₂' : List ℕ} {n m : ℕ} → checkServes room ≡ true → leb (length list) maxText ≡ true → leb (length doc) maxText ≡ true
+      → Ended (bothStages list doc) calls calls' wires wires' r → work₁' ≡ replicate n 0 → n ≡ length work₁ → work₂' ≡ replicate m 0 → m ≡ length work₂ → Ensured r calls' wires' work₁' work₂'
+  unfolding checkAnswer checked
+  ended {n = n} {m} e f g w z i y j =
+      let s = guard-none list doc (bothStages list doc) e f g in
+      (rw s (w .answered), (rw s (w .called), (rw s (w .wired), (
+        z ∙ cleared-after (bothStages list doc) callCount (both-codes list doc) n work₁ i (w .answered),
+        y ∙ cleared-after (bothStages list doc) callCount (both-codes list doc) m work₂ j (w .answered),
+      ))))

@@ -70,11 +70,11 @@ neither nothing b h = (refl, h)
 neither (some x) nothing h = let z : _≡_ {A = ℕ} 0 1 = cc in absurd (omega arith)
 neither (some x) (some y) h = let z : _≡_ {A = ℕ} 0 1 = cc in absurd (omega arith)
 
-pub own-clean : (hs : List Header) → first (listFaults hs) ≡ nothing → first (flatMap L.ownFaults hs) ≡ nothing
+pub own-clean : (hs : List Header) → first (listFaults hs) ≡ nothing → first (flatMap L.headerFaults hs) ≡ nothing
 own-clean hs h =
     let a = first (over maxOperations (map (λ (g : Header). g .keyword .start) hs)) in
     let b = first (faults 13 (starts (repeats (map (λ (g : Header). g .name) hs)))) in
-    let c = first (flatMap L.ownFaults hs) in
+    let c = first (flatMap L.headerFaults hs) in
     neither b c (neither a (earlier b c) (sym (list-parts hs) ∙ h) .1) .1
 
 pub none-beyond : (k : ℕ) (xs : List ℕ) → take 1 (drop k xs) ≡ [] → length xs ≤ k
@@ -108,7 +108,7 @@ fewer-repeats seen (s ∷ ss) ts h = go (isAmong seen s) h (fewer-repeats (seen 
     go false e r = r e
 
 -- the four kinds of faults of a header without faults
-own-none : (h : Header) → first (L.ownFaults h) ≡ nothing
+own-none : (h : Header) → first (L.headerFaults h) ≡ nothing
     → (first (over maxParameters (starts (paramNames (h .params)))) ≡ nothing) × (first (faults 13 (starts (repeats (headerNames h)))) ≡ nothing)
 own-none h e =
     let a = first (over maxParameters (starts (paramNames (h .params)))) in
@@ -119,14 +119,14 @@ own-none h e =
     (neither a b (x .0) .0, x .1)
 
 -- its parameters are few, and no two have one name
-pub few-params : (h : Header) → first (L.ownFaults h) ≡ nothing → length (h .params) ≤ maxParameters
+pub few-params : (h : Header) → first (L.headerFaults h) ≡ nothing → length (h .params) ≤ maxParameters
 few-params h e =
     let ps = starts (paramNames (h .params)) in
     let n = none-beyond maxParameters ps (no-faults 12 (take 1 (drop maxParameters ps)) (first-none (over maxParameters ps) (own-none h e .0))) in
     let l : length (starts (paramNames (h .params))) ≡ length (h .params) = length-map (paramNames (h .params)) (λ (t : Token). t .start) ∙ length-map (h .params) (λ (p : Param). p .name) in
     omega arith
 
-pub apart-params : (h : Header) → first (L.ownFaults h) ≡ nothing → repeats (paramNames (h .params)) ≡ []
+pub apart-params : (h : Header) → first (L.headerFaults h) ≡ nothing → repeats (paramNames (h .params)) ≡ []
 apart-params h e =
     let ts = repeats (headerNames h) in
     fewer-repeats [] (paramNames (h .params)) (map (λ (r : Result). r .name) (h .results)) (no-starts ts (no-faults 13 (starts ts) (first-none (faults 13 (starts ts)) (own-none h e .1))))

@@ -4,6 +4,8 @@ pub mod Cases
 -- The order of faults; texts that pass; wires.
 pub mod First
 pub mod Acceptance
+pub mod Guards
+pub mod Members
 pub mod Wired
 -- Fitting: numbers at extent, trees, the tokens of types.
 pub mod Extents
@@ -25,7 +27,7 @@ pub mod Rulings
 pub mod HeaderWalks
 pub mod Front
 pub mod ListStages
-pub mod Codes
+pub mod Clearing
 -- Binding: masks; the slots and the faults of one argument more; readers over the two tables; the tally of a call's arguments.
 pub mod Masks
 pub mod Labels
@@ -56,9 +58,11 @@ pub mod Documents
 pub mod OwnFaults
 -- Documents under a list.
 pub mod DocumentFaults
+pub mod Lines
+pub mod Refusals
+pub mod ListAnswers
 pub mod Declared
 pub mod CallUsage
 pub mod Storing
-pub mod DocumentCodes
 pub mod BothStages
 pub mod Checks

@@ -1,6 +1,7 @@
--- What holds of operation lists and documents, for every text and every lent length. Assumes nothing.
+-- What holds of operation lists and documents, for every text and every lent length: acceptance in both directions, the first fault, the
+-- tables, the work areas. The page of the demands cites these. Assumes nothing.
 use mathlib.Core.Path.{_≡_, refl, sym, ap, _∙_}
-use mathlib.Core.Bool.{Bool, true, false, _&&_}
+use mathlib.Core.Bool.{Bool, true, false}
 use mathlib.Core.List.{List, [], _∷_, _++_, List·Memᴰ}
 use mathlib.Core.Logic.{_⊎_, inl, inr}
 use mathlib.Core.Option.{Option, some}
@@ -9,8 +10,10 @@ use Prim.Native.Nat.{ℕ, _≤_, _<_}
 use native.Mathlib.Omega.{arith}
 use lib.Dec.{leb}
 use lib.ListN.{length, replicate}
-use borrow.Author.Tests.{le-leb, leb-true, ne-eqb}
-use Rattle.lexis.specs.Sizes.{maxText, maxBrackets, workWords, callWords, wireWords}
+use lib.Seq.{sets}
+use borrow.Author.Tests.{le-leb, lt-leb, leb-true, ne-eqb}
+use Rattle.lexis.specs.Sizes.{maxText, maxBrackets, workWords}
+use Rattle.lexis.specs.Code as Code
 use Rattle.lexis.specs.Answer.{answer}
 use Rattle.lexis.specs.declared.Answer.{Answer}
 use Rattle.lexis.specs.Lexer.{Token, accepted, refused, lex}
@@ -19,17 +22,18 @@ use Rattle.syntax.specs.Grammar.{IsList, IsDocument}
 use Rattle.syntax.specs.Fault.{FirstFault}
 use Rattle.syntax.specs.Table.{placeOf}
 use Rattle.syntax.proofs.Theorems.{list-parsed, document-parsed, list-fault-given, document-fault-given}
-use Rattle.rules.specs.Fault.{Fault, first}
+use Rattle.rules.specs.Fault.{Fault, first, IsFirst}
 use Rattle.rules.specs.ListRules.{listFaults}
 use Rattle.rules.specs.DocumentRules.{documentFaults}
 use Rattle.rules.specs.Names.{used}
-use Rattle.rules.specs.Tables.{assigner}
+use Rattle.rules.specs.Tables.{callTable, wireTable, assigner}
 use Rattle.rules.specs.Wired.{AssignedBy}
-use Rattle.rules.specs.Answer.{Stage, pass, stop, Checked, andThen, guard, stageAnswer, listStages, documentStages, declared, declarationsAnswer, checked, checkAnswer, callsAfter, wiresAfter, workAfter}
+use Rattle.rules.specs.Answer.{Stage, pass, stop, Checked, andThen, guard, guarded, bytesStage, syntaxStage, rulesStage, stageAnswer, listStages, documentStages, bothStages, declared, declarationsAnswer}
+use Rattle.rules.specs.Answer.{CheckRoom, checkServes, checked, callCount, checkAnswer, callsAfter, wiresAfter, workAfter}
 use Rattle.rules.specs.Accepted.{AcceptedList, AcceptedDocument}
-use Rattle.rules.proofs.First.{before-antisym, IsFirst, first-is, first-none}
-use Rattle.rules.proofs.Codes.{stage-codes}
-use Rattle.rules.proofs.DocumentCodes.{document-codes}
+use Rattle.rules.proofs.First.{before-antisym, first-is, first-none}
+use Rattle.rules.proofs.Guards.{guard-none}
+use Rattle.rules.proofs.Refusals.{list-codes, both-codes}
 use Rattle.rules.proofs.Wired.{wired}
 use Rattle.rules.proofs.DocumentFaults.{unwired-none}
 use Rattle.rules.proofs.Acceptance.{list-passed, list-passes, document-passed, document-passes}
@@ -50,10 +54,6 @@ first-fault xs x = (first-is xs x, λ h. go h (first xs) refl)
     go h nothing e = absurd (none (first-none xs e) (h .member))
     go h (some y) e = let i = first-is xs y e in e ∙ ap (λ (z : Fault). some z) (before-antisym y x (i .lowest x (h .member)) (h .lowest y (i .member)))
 
--- where there is none, there is no fault
-pub no-fault : (xs : List Fault) → first xs ≡ nothing → xs ≡ []
-no-fault = first-none
-
 no-first : (xs : List Fault) → xs ≡ [] → first xs ≡ nothing
 unfolding first
 no-first xs e = rw e
@@ -65,107 +65,200 @@ pub wire-below : (hs : List Header) (doc : List ℕ) (d : Document) → Accepted
     → d .calls ≡ before ++ (c ∷ after) → used c ≡ xs ++ (t ∷ ys) → AssignedBy (d .calls) (assigner (d .calls) t) (length before) t
 wire-below hs doc d a before c after xs t ys e u = rw e (wired before c after xs t ys (rw e at (unwired-none hs d (no-first (documentFaults hs d) (a .lawful)))) u)
 
+-- ---- the first fault of a list, and of a document under an accepted list: of the bytes; of the syntax, whose place the grammar gives; of the rules
+
+pub list-bytes : (list : List ℕ) (c p : ℕ) → lex list ≡ refused c p → listStages list ≡ stop (answer c 1 p 0)
+unfolding listStages
+list-bytes list c p e = rw e
+
+pub list-syntax : (list : List ℕ) (c : ℕ) (ts us : List Token) → lex list ≡ accepted ts → FirstFault (λ b xs. (hs : List Header) × IsList b xs hs) maxBrackets c ts us
+    → listStages list ≡ stop (answer c 1 (placeOf (length list) us) 0)
+unfolding listStages
+list-syntax list c ts us e f = rw (e, list-fault-given maxBrackets c ts us f)
+
+pub list-rules : (list : List ℕ) (ts : List Token) (hs : List Header) (x : Fault) → lex list ≡ accepted ts → IsList maxBrackets ts hs → IsFirst x (listFaults hs)
+    → listStages list ≡ stop (answer (x .code) 1 (x .at) (x .detail))
+unfolding listStages
+list-rules list ts hs x e s f = rw (e, list-parsed maxBrackets ts hs .1 s, first-fault (listFaults hs) x .1 f)
+
+module _ (list doc : List ℕ) (hs : List Header) (a : AcceptedList list hs) where
+  pub document-bytes : (c p : ℕ) → lex doc ≡ refused c p → bothStages list doc ≡ stop (answer c 2 p 0)
+  unfolding bothStages documentStages
+  document-bytes c p e = rw (list-passes list hs a, e)
+
+  pub document-syntax : (c : ℕ) (ts us : List Token) → lex doc ≡ accepted ts → FirstFault (λ b xs. (d : Document) × IsDocument b xs d) maxBrackets c ts us
+      → bothStages list doc ≡ stop (answer c 2 (placeOf (length doc) us) 0)
+  unfolding bothStages documentStages
+  document-syntax c ts us e f = rw (list-passes list hs a, e, document-fault-given maxBrackets c ts us f)
+
+  pub document-rules : (ts : List Token) (d : Document) (x : Fault) → lex doc ≡ accepted ts → IsDocument maxBrackets ts d → IsFirst x (documentFaults hs d)
+      → bothStages list doc ≡ stop (answer (x .code) 2 (x .at) (x .detail))
+  unfolding bothStages documentStages
+  document-rules ts d x e s f = rw (list-passes list hs a, e, document-parsed maxBrackets ts d .1 s, first-fault (documentFaults hs d) x .1 f)
+
+  -- an accepted document passes
+  pub both-pass : (d : Document) → AcceptedDocument hs doc d → bothStages list doc ≡ pass (record { headers = hs; document = d })
+  unfolding bothStages
+  both-pass d b = rw (list-passes list hs a, document-passes hs doc d b)
+
+-- what passes is accepted
+pub both-passed : (list doc : List ℕ) (k : Checked) → length list ≤ maxText → length doc ≤ maxText → bothStages list doc ≡ pass k → AcceptedList list (k .headers) × AcceptedDocument (k .headers) doc (k .document)
+unfolding bothStages
+both-passed list doc k l m h = outer (listStages list) refl h
+  where
+    inner : (hs : List Header) → AcceptedList list hs → (s : Stage Document) → documentStages hs doc ≡ s → andThen {B = Checked} s (λ d. pass (record { headers = hs; document = d })) ≡ pass k
+        → AcceptedList list (k .headers) × AcceptedDocument (k .headers) doc (k .document)
+    inner hs a (pass d) q e = let z : record { headers = hs; document = d } ≡ k = cc in rw (← z) (a, document-passed hs doc d m q)
+    inner hs a (stop r) q e = let z : _≡_ {A = ℕ} 0 1 = cc in absurd (omega arith)
+
+    outer : (s : Stage (List Header)) → listStages list ≡ s → andThen s (λ hs. andThen {B = Checked} (documentStages hs doc) (λ d. pass (record { headers = hs; document = d }))) ≡ pass k
+        → AcceptedList list (k .headers) × AcceptedDocument (k .headers) doc (k .document)
+    outer (pass hs) q e = inner hs (list-passed list hs l q) (documentStages hs doc) refl e
+    outer (stop r) q e = let z : _≡_ {A = ℕ} 0 1 = cc in absurd (omega arith)
+
+-- a list that is refused is refused before the document
+pub list-first : (list doc : List ℕ) (r : Answer) → listStages list ≡ stop r → bothStages list doc ≡ stop r
+unfolding bothStages
+list-first list doc r e = rw e
+
 -- ---- declarations
 
--- an accepted list, lent the room asked, is answered 0, 0, 0 and the number of its operations
-pub declarations-accepts : (list : List ℕ) (work : ℕ) (hs : List Header) → workWords ≤ work → AcceptedList list hs → declarationsAnswer list work ≡ answer 0 0 0 (length hs)
-unfolding declarationsAnswer declared
-declarations-accepts list work hs r a = rw (le-leb workWords work r, le-leb (length list) maxText (a .short), list-passes list hs a)
+module _ (list : List ℕ) (work : ℕ) where
+  pub declarations-room : work < workWords → declarationsAnswer list work ≡ answer Code.shortTable 0 0 0
+  unfolding declarationsAnswer declared
+  declarations-room r = rw (lt-leb workWords work r)
 
--- and code 0 is answered to no other
-pub declarations-accepted : (list : List ℕ) (work : ℕ) → declarationsAnswer list work .code ≡ 0 → (hs : List Header) × AcceptedList list hs
-unfolding declarationsAnswer declared
-declarations-accepted list work e = go (leb workWords work) (leb (length list) maxText) refl e
+  pub declarations-long : workWords ≤ work → maxText < length list → declarationsAnswer list work ≡ answer Code.longText 1 maxText 0
+  unfolding declarationsAnswer declared
+  declarations-long r l = rw (le-leb workWords work r, lt-leb (length list) maxText l)
+
+  -- lent the room asked, and with a text that is not too long, the answer is that of the stages
+  pub declarations-stages : workWords ≤ work → length list ≤ maxText → declarationsAnswer list work ≡ stageAnswer (listStages list) length
+  unfolding declarationsAnswer declared
+  declarations-stages r l = rw (le-leb workWords work r, le-leb (length list) maxText l)
+
+  -- an accepted list is answered 0, 0, 0 and the number of its operations
+  pub declarations-accepts : (hs : List Header) → workWords ≤ work → AcceptedList list hs → declarationsAnswer list work ≡ answer Code.accepted 0 0 (length hs)
+  declarations-accepts hs r a = declarations-stages r (a .short) ∙ ap (λ (s : Stage (List Header)). stageAnswer s length) (list-passes list hs a)
+
+  -- and code 0 is answered to no other
+  pub declarations-accepted : declarationsAnswer list work .code ≡ Code.accepted → (hs : List Header) × AcceptedList list hs
+  unfolding declarationsAnswer declared
+  declarations-accepted e = go (leb workWords work) (leb (length list) maxText) refl e
+    where
+      by : length list ≤ maxText → (s : Stage (List Header)) → listStages list ≡ s → stageAnswer s length .code ≡ 0 → (hs : List Header) × AcceptedList list hs
+      by l (pass hs) q e = (hs, list-passed list hs l q)
+      by l (stop r) q e = absurd (omega (arith, list-codes list r q))
+
+      go : (a b : Bool) → leb (length list) maxText ≡ b → stageAnswer (guard a (answer 1 0 0 0) (guard b (answer 2 1 maxText 0) (listStages list))) length .code ≡ 0 → (hs : List Header) × AcceptedList list hs
+      go false b q e = absurd (omega arith)
+      go true false q e = absurd (omega arith)
+      go true true q e = by (leb-true (length list) maxText q) (listStages list) refl e
+
+-- ---- operations on a list and a document, by their guards: check and canon
+
+module _ {A : Type 0} (serves : Bool) (list doc : List ℕ) (s : Stage A) where
+  pub guarded-long : serves ≡ true → maxText < length list → guarded serves list doc s ≡ stop (answer Code.longText 1 maxText 0)
+  guarded-long r l = rw (r, lt-leb (length list) maxText l)
+
+  pub guarded-long-document : serves ≡ true → length list ≤ maxText → maxText < length doc → guarded serves list doc s ≡ stop (answer Code.longText 2 maxText 0)
+  guarded-long-document r l m = rw (r, le-leb (length list) maxText l, lt-leb (length doc) maxText m)
+
+  pub guarded-good : serves ≡ true → length list ≤ maxText → length doc ≤ maxText → guarded serves list doc s ≡ s
+  guarded-good r l m = guard-none list doc s r (le-leb (length list) maxText l) (le-leb (length doc) maxText m)
+
+  -- what passes was lent the room asked, and both texts are not too long
+  pub guarded-passed : (a : A) → guarded serves list doc s ≡ pass a → (serves ≡ true) × ((length list ≤ maxText) × ((length doc ≤ maxText) × (s ≡ pass a)))
+  guarded-passed a h = go serves (leb (length list) maxText) (leb (length doc) maxText) refl refl refl h
+    where
+      go : (x y z : Bool) → serves ≡ x → leb (length list) maxText ≡ y → leb (length doc) maxText ≡ z → guard x (answer 1 0 0 0) (guard y (answer 2 1 maxText 0) (guard z (answer 2 2 maxText 0) s)) ≡ pass a
+          → (serves ≡ true) × ((length list ≤ maxText) × ((length doc ≤ maxText) × (s ≡ pass a)))
+      go false y z e f g h = let c : _≡_ {A = ℕ} 0 1 = cc in absurd (omega arith)
+      go true false z e f g h = let c : _≡_ {A = ℕ} 0 1 = cc in absurd (omega arith)
+      go true true false e f g h = let c : _≡_ {A = ℕ} 0 1 = cc in absurd (omega arith)
+      go true true true e f g h = (e, (leb-true (length list) maxText f, (leb-true (length doc) maxText g, h)))
+
+-- an answer of code 0 is one of stages that pass, if their refusals have another code
+pub answer-passed : {A : Type 0} (s : Stage A) (n : A → ℕ) → ((r : Answer) → s ≡ stop r → 1 ≤ r .code) → stageAnswer s n .code ≡ Code.accepted → (a : A) × (s ≡ pass a)
+answer-passed (pass a) n h e = (a, refl)
+answer-passed (stop r) n h e = let c = h r refl in absurd (omega (arith, c, e))
+
+-- a refusal by guards or by stages whose codes are not 0
+pub guarded-codes : {A : Type 0} (serves : Bool) (list doc : List ℕ) (s : Stage A) → ((r : Answer) → s ≡ stop r → 3 ≤ r .code) → (r : Answer) → guarded serves list doc s ≡ stop r → 1 ≤ r .code
+guarded-codes {A} serves list doc s h r = go serves (leb (length list) maxText) (leb (length doc) maxText)
   where
-    by : length list ≤ maxText → (s : Stage (List Header)) → listStages list ≡ s → stageAnswer s length .code ≡ 0 → (hs : List Header) × AcceptedList list hs
-    by l (pass hs) q e = (hs, list-passed list hs l q)
-    by l (stop r) q e = absurd (omega (arith, stage-codes list r q))
+    code : {q : Answer} → _≡_ {A = Stage A} (stop q) (stop r) → 1 ≤ q .code → 1 ≤ r .code
+    code {q} e l = let z : q ≡ r = cc in rw z at l
 
-    go : (a b : Bool) → leb (length list) maxText ≡ b → stageAnswer (guard a (answer 1 0 0 0) (guard b (answer 2 1 maxText 0) (listStages list))) length .code ≡ 0 → (hs : List Header) × AcceptedList list hs
-    go false b q e = absurd (omega arith)
-    go true false q e = absurd (omega arith)
-    go true true q e = by (leb-true (length list) maxText q) (listStages list) refl e
-
--- Otherwise the answer is the first fault: of the bytes; of the syntax, whose place the grammar gives; of the rules.
-pub declarations-bytes : (list : List ℕ) (work c p : ℕ) → workWords ≤ work → length list ≤ maxText → lex list ≡ refused c p → declarationsAnswer list work ≡ answer c 1 p 0
-unfolding declarationsAnswer declared listStages
-declarations-bytes list work c p r l e = rw (le-leb workWords work r, le-leb (length list) maxText l, e)
-
-pub declarations-syntax : (list : List ℕ) (work c : ℕ) (ts us : List Token) → workWords ≤ work → length list ≤ maxText → lex list ≡ accepted ts
-    → FirstFault (λ b ts. (hs : List Header) × IsList b ts hs) maxBrackets c ts us → declarationsAnswer list work ≡ answer c 1 (placeOf (length list) us) 0
-unfolding declarationsAnswer declared listStages
-declarations-syntax list work c ts us r l e f = rw (le-leb workWords work r, le-leb (length list) maxText l, e, list-fault-given maxBrackets c ts us f)
-
-pub declarations-rules : (list : List ℕ) (work : ℕ) (ts : List Token) (hs : List Header) (x : Fault) → workWords ≤ work → length list ≤ maxText → lex list ≡ accepted ts → IsList maxBrackets ts hs
-    → first (listFaults hs) ≡ some x → declarationsAnswer list work ≡ answer (x .code) 1 (x .at) (x .detail)
-unfolding declarationsAnswer declared listStages
-declarations-rules list work ts hs x r l e s f = rw (le-leb workWords work r, le-leb (length list) maxText l, e, list-parsed maxBrackets ts hs .1 s, f)
+    go : (x y z : Bool) → guard x (answer 1 0 0 0) (guard y (answer 2 1 maxText 0) (guard z (answer 2 2 maxText 0) s)) ≡ stop r → 1 ≤ r .code
+    go false y z e = code e (omega arith)
+    go true false z e = code e (omega arith)
+    go true true false e = code e (omega arith)
+    go true true true e = let l = h r e in omega (arith, l)
 
 -- ---- check
 
--- an accepted document under an accepted list, lent the room asked, is answered 0, 0, 0 and the number of its calls
-pub check-accepts : (list doc : List ℕ) (work₁ work₂ calls wires : ℕ) (hs : List Header) (d : Document) → workWords ≤ work₁ → workWords ≤ work₂ → callWords ≤ calls → wireWords ≤ wires
-    → AcceptedList list hs → AcceptedDocument hs doc d → checkAnswer list doc work₁ work₂ calls wires ≡ answer 0 0 0 (length (d .calls))
-unfolding checkAnswer checked
-check-accepts list doc work₁ work₂ calls wires hs d r₁ r₂ r₃ r₄ a b =
-    rw (le-leb workWords work₁ r₁, le-leb workWords work₂ r₂, le-leb callWords calls r₃, le-leb wireWords wires r₄, le-leb (length list) maxText (a .short), le-leb (length doc) maxText (b .short), list-passes list hs a, document-passes hs doc d b)
+module _ (list doc : List ℕ) (l : CheckRoom) where
+  pub check-room : checkServes l ≡ false → checkAnswer list doc l ≡ answer Code.shortTable 0 0 0
+  unfolding checkAnswer checked
+  check-room e = rw e
 
--- and code 0 is answered to no other
-pub check-accepted : (list doc : List ℕ) (work₁ work₂ calls wires : ℕ) → checkAnswer list doc work₁ work₂ calls wires .code ≡ 0
-    → (hs : List Header) × ((d : Document) × (AcceptedList list hs × AcceptedDocument hs doc d))
-unfolding checkAnswer checked
-check-accepted list doc work₁ work₂ calls wires e =
-    go (leb workWords work₁ && (leb workWords work₂ && (leb callWords calls && leb wireWords wires))) (leb (length list) maxText) (leb (length doc) maxText) refl refl e
-  where
-    second : (hs : List Header) → AcceptedList list hs → length doc ≤ maxText → (s : Stage Document) → documentStages hs doc ≡ s → stageAnswer (andThen {B = Checked} s (λ d. pass (record { headers = hs; document = d }))) (λ k. length (k .document .calls)) .code ≡ 0 → (hs : List Header) × ((d : Document) × (AcceptedList list hs × AcceptedDocument hs doc d))
-    second hs a l (pass d) q e = (hs, (d, (a, document-passed hs doc d l q)))
-    second hs a l (stop r) q e = absurd (omega (arith, document-codes hs doc r q))
+  pub check-long : checkServes l ≡ true → maxText < length list → checkAnswer list doc l ≡ answer Code.longText 1 maxText 0
+  unfolding checkAnswer checked
+  check-long r k = rw (guarded-long (checkServes l) list doc (bothStages list doc) r k)
 
-    first-text : length list ≤ maxText → length doc ≤ maxText → (s : Stage (List Header)) → listStages list ≡ s → stageAnswer (andThen {B = Checked} s (λ hs. andThen (documentStages hs doc) (λ d. pass (record { headers = hs; document = d })))) (λ k. length (k .document .calls)) .code ≡ 0 → (hs : List Header) × ((d : Document) × (AcceptedList list hs × AcceptedDocument hs doc d))
-    first-text m l (pass hs) q e = second hs (list-passed list hs m q) l (documentStages hs doc) refl e
-    first-text m l (stop r) q e = absurd (omega (arith, stage-codes list r q))
+  pub check-long-document : checkServes l ≡ true → length list ≤ maxText → maxText < length doc → checkAnswer list doc l ≡ answer Code.longText 2 maxText 0
+  unfolding checkAnswer checked
+  check-long-document r k m = rw (guarded-long-document (checkServes l) list doc (bothStages list doc) r k m)
 
-    go : (a b c : Bool) → leb (length list) maxText ≡ b → leb (length doc) maxText ≡ c
-        → stageAnswer (guard a (answer 1 0 0 0) (guard b (answer 2 1 maxText 0) (guard c (answer 2 2 maxText 0) (andThen {B = Checked} (listStages list) (λ hs. andThen (documentStages hs doc) (λ d. pass (record { headers = hs; document = d }))))))) (λ k. length (k .document .calls)) .code ≡ 0 → (hs : List Header) × ((d : Document) × (AcceptedList list hs × AcceptedDocument hs doc d))
-    go false b c p q e = absurd (omega arith)
-    go true false c p q e = absurd (omega arith)
-    go true true false p q e = absurd (omega arith)
-    go true true true p q e = first-text (leb-true (length list) maxText p) (leb-true (length doc) maxText q) (listStages list) refl e
+  -- lent the room asked, and with texts that are not too long, the stages are those of both texts
+  pub check-stages : checkServes l ≡ true → length list ≤ maxText → length doc ≤ maxText → checked list doc l ≡ bothStages list doc
+  unfolding checked
+  check-stages r k m = guarded-good (checkServes l) list doc (bothStages list doc) r k m
 
--- Otherwise, after an accepted list, the answer is the document's first fault: of the bytes; of the syntax, whose place the grammar gives; of
--- the rules. (Of a list that is not accepted `check` answers what `declarations` does, with the same stages.)
-module _ (list doc : List ℕ) (work₁ work₂ calls wires : ℕ) (hs : List Header) (r₁ : workWords ≤ work₁) (r₂ : workWords ≤ work₂) (r₃ : callWords ≤ calls) (r₄ : wireWords ≤ wires) (a : AcceptedList list hs) (l : length doc ≤ maxText) where
-  pub check-bytes : (c p : ℕ) → lex doc ≡ refused c p → checkAnswer list doc work₁ work₂ calls wires ≡ answer c 2 p 0
-  unfolding checkAnswer checked documentStages
-  check-bytes c p e =
-      rw (le-leb workWords work₁ r₁, le-leb workWords work₂ r₂, le-leb callWords calls r₃, le-leb wireWords wires r₄, le-leb (length list) maxText (a .short), le-leb (length doc) maxText l, list-passes list hs a, e)
+  pub check-refuses : (r : Answer) → checkServes l ≡ true → length list ≤ maxText → length doc ≤ maxText → bothStages list doc ≡ stop r → checkAnswer list doc l ≡ r
+  unfolding checkAnswer
+  check-refuses r s k m e = rw (check-stages s k m, e)
 
-  pub check-syntax : (c : ℕ) (ts us : List Token) → lex doc ≡ accepted ts → FirstFault (λ b ts. (d : Document) × IsDocument b ts d) maxBrackets c ts us
-      → checkAnswer list doc work₁ work₂ calls wires ≡ answer c 2 (placeOf (length doc) us) 0
-  unfolding checkAnswer checked documentStages
-  check-syntax c ts us e f =
-      rw (le-leb workWords work₁ r₁, le-leb workWords work₂ r₂, le-leb callWords calls r₃, le-leb wireWords wires r₄, le-leb (length list) maxText (a .short), le-leb (length doc) maxText l, list-passes list hs a, e, document-fault-given maxBrackets c ts us f)
+  -- an accepted document under an accepted list is answered 0, 0, 0 and the number of its calls; the tables hold its calls and wires
+  module _ (hs : List Header) (d : Document) (r : checkServes l ≡ true) (a : AcceptedList list hs) (b : AcceptedDocument hs doc d) where
+    checked-is : checked list doc l ≡ pass (record { headers = hs; document = d })
+    checked-is = check-stages r (a .short) (b .short) ∙ both-pass list doc hs a d b
 
-  pub check-rules : (ts : List Token) (d : Document) (x : Fault) → lex doc ≡ accepted ts → IsDocument maxBrackets ts d → first (documentFaults hs d) ≡ some x
-      → checkAnswer list doc work₁ work₂ calls wires ≡ answer (x .code) 2 (x .at) (x .detail)
-  unfolding checkAnswer checked documentStages
-  check-rules ts d x e s f =
-      rw (le-leb workWords work₁ r₁, le-leb workWords work₂ r₂, le-leb callWords calls r₃, le-leb wireWords wires r₄, le-leb (length list) maxText (a .short), le-leb (length doc) maxText l, list-passes list hs a, e, document-parsed maxBrackets ts d .1 s, f)
+    pub check-accepts : checkAnswer list doc l ≡ answer Code.accepted 0 0 (length (d .calls))
+    unfolding checkAnswer
+    check-accepts = rw checked-is
 
--- ---- lent words
+    pub check-writes : (calls wires : List ℕ) → (callsAfter (checked list doc l) calls ≡ sets calls 0 (callTable hs d)) × (wiresAfter (checked list doc l) wires ≡ sets wires 0 (wireTable d))
+    unfolding callsAfter wiresAfter
+    check-writes calls wires = (rw checked-is, rw checked-is)
 
--- a refusal by `check` leaves both tables as they were
-pub refusal-keeps : (s : Stage Checked) (calls wires : List ℕ) → (stageAnswer s (λ k. length (k .document .calls)) .code ≡ 0 → ⊥) → (callsAfter s calls ≡ calls) × (wiresAfter s wires ≡ wires)
-unfolding callsAfter wiresAfter
-refusal-keeps (pass k) calls wires n = absurd (n refl)
-refusal-keeps (stop r) calls wires n = (refl, refl)
+  -- and code 0 is answered to no other
+  pub check-accepted : checkAnswer list doc l .code ≡ Code.accepted → (hs : List Header) × ((d : Document) × (AcceptedList list hs × AcceptedDocument hs doc d))
+  unfolding checkAnswer checked
+  check-accepted e =
+      let x = answer-passed (checked list doc l) callCount (guarded-codes (checkServes l) list doc (bothStages list doc) (both-codes list doc)) e in
+      let y = guarded-passed (checkServes l) list doc (bothStages list doc) (x .0) (x .1) in
+      let z = both-passed list doc (x .0) (y .1 .0) (y .1 .1 .0) (y .1 .1 .1) in
+      (x .0 .headers, (x .0 .document, z))
+
+  -- ---- lent words
+
+  -- a refusal leaves both tables as they were
+  pub check-keeps : (calls wires : List ℕ) → (checkAnswer list doc l .code ≡ Code.accepted → ⊥) → (callsAfter (checked list doc l) calls ≡ calls) × (wiresAfter (checked list doc l) wires ≡ wires)
+  unfolding checkAnswer callsAfter wiresAfter
+  check-keeps calls wires n = go (checked list doc l) n
+    where
+      go : (s : Stage Checked) → (stageAnswer s callCount .code ≡ 0 → ⊥) → (callsAfter s calls ≡ calls) × (wiresAfter s wires ≡ wires)
+      go (pass k) n = absurd (n refl)
+      go (stop r) n = (refl, refl)
 
 -- after any answer but codes 1 and 2 a work area is zero over its full length, and these two leave it as it was
-pub work-zero : (r : Answer) (work : List ℕ) → (r .code ≡ 1 → ⊥) → (r .code ≡ 2 → ⊥) → workAfter r work ≡ replicate (length work) 0
+pub work-zero : (r : Answer) (work : List ℕ) → (r .code ≡ Code.shortTable → ⊥) → (r .code ≡ Code.longText → ⊥) → workAfter r work ≡ replicate (length work) 0
 unfolding workAfter
 work-zero r work a b = rw (ne-eqb (r .code) 1 a, ne-eqb (r .code) 2 b)
 
-pub work-kept : (r : Answer) (work : List ℕ) → (r .code ≡ 1) ⊎ (r .code ≡ 2) → workAfter r work ≡ work
+pub work-kept : (r : Answer) (work : List ℕ) → (r .code ≡ Code.shortTable) ⊎ (r .code ≡ Code.longText) → workAfter r work ≡ work
 unfolding workAfter
 work-kept r work (inl e) = rw e
 work-kept r work (inr e) = rw e

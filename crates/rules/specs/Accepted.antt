@@ -1,6 +1,6 @@
 -- When an operation list, and a document under a list, is accepted: said with the grammar and the rules alone, and no parser.
 use mathlib.Core.Path.{_≡_}
-use mathlib.Core.List.{List, []}
+use mathlib.Core.List.{List, [], _∷_, _++_}
 use Prim.Native.Nat.{ℕ, _≤_}
 use lib.ListN.{length}
 use Rattle.lexis.specs.Sizes.{maxText, maxBrackets}
@@ -18,6 +18,14 @@ pub record Accepted {A : Type 0} (Spells : ℕ → List Token → A → Type 0) 
   pub lexed : lex text ≡ accepted tokens
   pub spelt : Spells maxBrackets tokens tree
   pub lawful : faultsOf tree ≡ []
+
+-- p is where a token of the text starts
+pub record StartsToken (text : List ℕ) (p : ℕ) : Type 0 where
+  pub before : List Token
+  pub token : Token
+  pub after : List Token
+  pub among : lex text ≡ accepted (before ++ (token ∷ after))
+  pub start : token .start ≡ p
 
 -- an operation list of these headers
 abbrev pub AcceptedList : List ℕ → List Header → Type 0

@@ -1,6 +1,7 @@
 -- Faults of a rule stage, and the one that the stage answers. Relies on nothing.
-use Prim.Native.Nat.{ℕ}
-use mathlib.Core.List.{List, [], _∷_, map}
+use Prim.Native.Nat.{ℕ, _≤_, _<_}
+use mathlib.Core.Path.{_≡_}
+use mathlib.Core.List.{List, [], _∷_, map, List·Memᴰ}
 use mathlib.Core.Bool.{Bool, true, false, cond, _&&_, _||_}
 use mathlib.Core.Option.{Option, some}
 use mathlib.Core.Option.{none as nothing}
@@ -48,3 +49,16 @@ earlier (some x) (some y) = some (earlierOf x y)
 unfoldable pub first : List Fault → Option Fault
 first [] = nothing
 first (x ∷ xs) = earlier (some x) (first xs)
+
+-- ---- what the theorems claim of that fault
+
+-- x is not after y: it lies at a smaller place, or at the same place with a smaller code, or it is y but for the detail
+pub data Before (x y : Fault) : Type 0 where
+  by-place : x .at < y .at → Before x y
+  by-code : x .at ≡ y .at → x .code < y .code → Before x y
+  by-detail : x .at ≡ y .at → x .code ≡ y .code → x .detail ≤ y .detail → Before x y
+
+-- x is the first of the faults xs: one of them, and after none of them
+pub record IsFirst (x : Fault) (xs : List Fault) : Type 0 where
+  pub member : List·Memᴰ x xs
+  pub lowest : (y : Fault) → List·Memᴰ y xs → Before x y

@@ -2,7 +2,7 @@
 use mathlib.Core.List.{List}
 use Prim.Native.Nat.{ℕ, _-_, _≤_, _<_}
 use lib.ListN.{length, set}
-use Rattle.rules.proofs.Codes.{zeroed, zeroed-none, zeroed-length, zeroed-next, zeroed-all}
+use Rattle.rules.proofs.Clearing.{zeroed, zeroed-none, zeroed-length, zeroed-next, zeroed-all}
 use native.Mathlib.Omega.{arith}
 use mathlib.Core.Path.{_≡_, refl, sym, ap, _∙_}
 use borrow.Author.Needs.{needs}

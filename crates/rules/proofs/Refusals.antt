@@ -1,0 +1,137 @@
+-- What a refusal by the stages of a text is: of its bytes, of its syntax, or of its rules; once for operation lists and documents. Its code
+-- is 3 or more, so the work areas are cleared after it. Relies on `Lines` for the rules.
+use mathlib.Core.Path.{_≡_, refl, sym, ap, _∙_}
+use mathlib.Core.List.{List, [], _∷_, _++_, append-assoc}
+use mathlib.Core.Logic.{_⊎_, inl, inr}
+use mathlib.Core.Option.{Option, some}
+use mathlib.Core.Option.{none as nothing}
+use Prim.Native.Nat.{ℕ, _≤_}
+use native.Mathlib.Omega.{arith}
+use lib.ListN.{length}
+use Rattle.lexis.specs.Sizes.{maxBrackets}
+use Rattle.lexis.specs.Lexer.{Token, Lexed, accepted, refused, lex}
+use Rattle.lexis.specs.Answer.{answer}
+use Rattle.lexis.specs.declared.Answer.{Answer}
+use Rattle.lexis.proofs.Theorems.{coded}
+use Rattle.syntax.specs.Tree.{Header, Document}
+use Rattle.syntax.specs.Grammar.{IsList, IsDocument}
+use Rattle.syntax.specs.Fault.{FirstFault}
+use Rattle.syntax.specs.Table.{placeOf}
+use Rattle.syntax.specs.Parser.{Parse, Reader, operations, document}
+use Rattle.syntax.specs.Parser.Parse.{ok, bad}
+use Rattle.syntax.proofs.Theorems.{list-parsed, document-parsed, list-all-read, document-all-read, list-fault, document-fault}
+use Rattle.rules.specs.Fault.{Fault, first}
+use Rattle.rules.specs.ListRules.{listFaults}
+use Rattle.rules.specs.DocumentRules.{documentFaults}
+use Rattle.rules.specs.Accepted.{StartsToken}
+use Rattle.rules.specs.Answer.{Stage, pass, stop, andThen, bytesStage, syntaxStage, rulesStage, listStages, documentStages, Checked, bothStages}
+use Rattle.rules.proofs.Acceptance.{stages, passed}
+use Rattle.rules.proofs.Members.{Each, list-good, document-good}
+use Rattle.rules.proofs.Lines.{ListCode, list-over-size, list-repeated-name, bad-default, DocumentCode, wrong-version, over-size, repeated-name, is-undeclared, is-misplaced, is-misnamed, is-misfit, is-unbound, is-unmatched, assigned-again, unassigned-use, is-misfed, unassigned-output, OnLine, first-lined, list-lined, document-lined}
+
+-- ---- one text
+
+-- a refusal of text n, whose tokens are to spell a tree, and whose rules give codes with these details
+pub data Refusal {A : Type 0} (Spells : ℕ → List Token → A → Type 0) (C : ℕ → ℕ → Type 0) (n : ℕ) (text : List ℕ) : Answer → Type 0 where
+  of-bytes : {c p : ℕ} → lex text ≡ refused c p → Refusal Spells C n text (answer c n p 0)
+  of-syntax : {c : ℕ} {ts us : List Token} → lex text ≡ accepted ts → FirstFault (λ b xs. (a : A) × Spells b xs a) maxBrackets c ts us
+      → Refusal Spells C n text (answer c n (placeOf (length text) us) 0)
+  of-rules : {c p k : ℕ} → C c k → StartsToken text p → Refusal Spells C n text (answer c n p k)
+
+-- every token of a text starts a token
+each-starts : (text : List ℕ) (before ts : List Token) → lex text ≡ accepted (before ++ ts) → Each (λ (t : Token). StartsToken text (t .start)) ts
+each-starts text before [] e = tt
+each-starts text before (t ∷ ts) e =
+    (record { before = before; token = t; after = ts; among = e; start = refl }, each-starts text (before ++ (t ∷ [])) ts (e ∙ ap (λ (xs : List Token). accepted xs) (sym (append-assoc before (t ∷ []) ts))))
+
+module _ {A : Type 0} (Spells : ℕ → List Token → A → Type 0) (C : ℕ → ℕ → Type 0) (n : ℕ) (text : List ℕ) (f : Reader A) (faultsOf : A → List Fault)
+    (spelt : (c : ℕ) (ts us : List Token) → f ts ≡ bad c us → FirstFault (λ b xs. (a : A) × Spells b xs a) maxBrackets c ts us)
+    (lined : (ts us : List Token) (a : A) → f ts ≡ ok a us → Each (λ (t : Token). StartsToken text (t .start)) ts → Each (OnLine C (StartsToken text)) (faultsOf a)) where
+  by-rules : (a : A) (o : Option Fault) → first (faultsOf a) ≡ o → Each (OnLine C (StartsToken text)) (faultsOf a) → (r : Answer) → rulesStage n a o ≡ stop r → Refusal Spells C n text r
+  by-rules a nothing e h r k = let z : _≡_ {A = ℕ} 0 1 = cc in absurd (omega arith)
+  by-rules a (some x) e h r k =
+      let l = first-lined C (StartsToken text) (faultsOf a) x h e in
+      let q : answer (x .code) n (x .at) (x .detail) ≡ r = cc in
+      let w : Refusal Spells C n text (answer (x .code) n (x .at) (x .detail)) = of-rules (l .code) (l .place) in
+      rw q at w
+
+  by-syntax : (ts : List Token) → lex text ≡ accepted ts → (p : Parse A) → f ts ≡ p → (r : Answer) → andThen (syntaxStage n text p) (λ a. rulesStage n a (first (faultsOf a))) ≡ stop r → Refusal Spells C n text r
+  by-syntax ts l (ok a us) e r k = by-rules a (first (faultsOf a)) refl (lined ts us a e (each-starts text [] ts l)) r k
+  by-syntax ts l (bad c us) e r k = let q : answer c n (placeOf (length text) us) 0 ≡ r = cc in let w : Refusal Spells C n text (answer c n (placeOf (length text) us) 0) = of-syntax l (spelt c ts us e) in rw q at w
+
+  refusal : (r : Answer) → stages n f faultsOf text ≡ stop r → Refusal Spells C n text r
+  refusal r k = go (lex text) refl k
+    where
+      go : (l : Lexed) → lex text ≡ l → andThen (bytesStage n l) (λ ts. andThen (syntaxStage n text (f ts)) (λ a. rulesStage n a (first (faultsOf a)))) ≡ stop r → Refusal Spells C n text r
+      go (accepted ts) e k = by-syntax ts e (f ts) refl r k
+      go (refused c p) e k = let q : answer c n p 0 ≡ r = cc in let w : Refusal Spells C n text (answer c n p 0) = of-bytes e in rw q at w
+
+-- its code is 3 or more
+refusal-high : {A : Type 0} {Spells : ℕ → List Token → A → Type 0} {C : ℕ → ℕ → Type 0} {n : ℕ} {text : List ℕ} {r : Answer} → ((c k : ℕ) → C c k → 3 ≤ c) → Refusal Spells C n text r → 3 ≤ r .code
+refusal-high {text = text} h (of-bytes {c = c} {p = p} e) = coded text c p e .0
+refusal-high h (of-syntax {c = c} e f) = go (f .code)
+  where
+    go : (c ≡ 9) ⊎ (c ≡ 10) → 3 ≤ c
+    go (inl q) = omega (arith, q)
+    go (inr q) = omega (arith, q)
+refusal-high h (of-rules {c = c} {k = k} d s) = h c k d
+
+-- ---- lists and documents
+
+pub list-refusal : (list : List ℕ) (r : Answer) → listStages list ≡ stop r → Refusal IsList ListCode 1 list r
+unfolding listStages
+list-refusal list r e =
+    refusal IsList ListCode 1 list (operations maxBrackets) listFaults (list-fault maxBrackets)
+    (λ ts us hs q g. list-lined (StartsToken list) hs (list-good (λ t. StartsToken list (t .start)) (list-parsed maxBrackets ts hs .0 (q ∙ ap (ok hs) (list-all-read maxBrackets ts hs us q))) g)) r e
+
+pub document-refusal : (hs : List Header) (doc : List ℕ) (r : Answer) → first (listFaults hs) ≡ nothing → documentStages hs doc ≡ stop r → Refusal IsDocument DocumentCode 2 doc r
+unfolding documentStages
+document-refusal hs doc r c e =
+    refusal IsDocument DocumentCode 2 doc (document maxBrackets) (documentFaults hs) (document-fault maxBrackets)
+    (λ ts us d q g. document-lined (StartsToken doc) hs c d (document-good (λ t. StartsToken doc (t .start)) (document-parsed maxBrackets ts d .0 (q ∙ ap (ok d) (document-all-read maxBrackets ts d us q))) g)) r e
+
+pub both-refusal : (list doc : List ℕ) (r : Answer) → bothStages list doc ≡ stop r → Refusal IsList ListCode 1 list r ⊎ Refusal IsDocument DocumentCode 2 doc r
+unfolding bothStages listStages first
+both-refusal list doc r h = go (listStages list) refl h
+  where
+    inner : (hs : List Header) → first (listFaults hs) ≡ nothing → (s : Stage Document) → documentStages hs doc ≡ s → andThen {B = Checked} s (λ d. pass (record { headers = hs; document = d })) ≡ stop r
+        → Refusal IsDocument DocumentCode 2 doc r
+    inner hs c (pass d) e k = let z : _≡_ {A = ℕ} 0 1 = cc in absurd (omega arith)
+    inner hs c (stop q) e k = let z : q ≡ r = cc in document-refusal hs doc r c (e ∙ ap (λ (x : Answer). stop x) z)
+
+    go : (s : Stage (List Header)) → listStages list ≡ s → andThen s (λ hs. andThen {B = Checked} (documentStages hs doc) (λ d. pass (record { headers = hs; document = d }))) ≡ stop r
+        → Refusal IsList ListCode 1 list r ⊎ Refusal IsDocument DocumentCode 2 doc r
+    go (pass hs) e k = inr (inner hs (ap first (passed 1 (operations maxBrackets) listFaults list hs e .lawful)) (documentStages hs doc) refl k)
+    go (stop q) e k = let z : q ≡ r = cc in inl (list-refusal list r (e ∙ ap (λ (x : Answer). stop x) z))
+
+-- ---- their codes
+
+list-high : (c k : ℕ) → ListCode c k → 3 ≤ c
+list-high c k list-over-size = omega arith
+list-high c k list-repeated-name = omega arith
+list-high c k bad-default = omega arith
+
+document-high : (c k : ℕ) → DocumentCode c k → 3 ≤ c
+document-high c k wrong-version = omega arith
+document-high c k over-size = omega arith
+document-high c k repeated-name = omega arith
+document-high c k is-undeclared = omega arith
+document-high c k is-misplaced = omega arith
+document-high c k is-misnamed = omega arith
+document-high c k is-misfit = omega arith
+document-high c k (is-unbound l) = omega arith
+document-high c k is-unmatched = omega arith
+document-high c k assigned-again = omega arith
+document-high c k unassigned-use = omega arith
+document-high c k is-misfed = omega arith
+document-high c k unassigned-output = omega arith
+
+pub list-codes : (list : List ℕ) (r : Answer) → listStages list ≡ stop r → 3 ≤ r .code
+list-codes list r e = refusal-high list-high (list-refusal list r e)
+
+pub both-codes : (list doc : List ℕ) (r : Answer) → bothStages list doc ≡ stop r → 3 ≤ r .code
+both-codes list doc r e = go (both-refusal list doc r e)
+  where
+    go : Refusal IsList ListCode 1 list r ⊎ Refusal IsDocument DocumentCode 2 doc r → 3 ≤ r .code
+    go (inl x) = refusal-high list-high x
+    go (inr x) = refusal-high document-high x
