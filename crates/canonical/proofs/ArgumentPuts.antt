@@ -12,7 +12,7 @@ use Rattle.lexis.specs.Lexer.{Token}
 use Rattle.syntax.specs.Symbol.{rightRound}
 use Rattle.syntax.specs.Tree.{Param, Arg}
 use Rattle.syntax.specs.Parser.{row, plain, commas, param}
-use Rattle.syntax.specs.Parser.{argumentPieces as anArgument}
+use Rattle.syntax.specs.Parser.{argument as anArgument}
 use Rattle.syntax.specs.Parser.Parse.{ok}
 use Rattle.syntax.specs.Table.{tokenAt, toks}
 use Rattle.syntax.proofs.Shrinks.{param-shrinks}

@@ -14,8 +14,7 @@ use Rattle.syntax.specs.Parser.Parse.{ok}
 use Rattle.syntax.specs.Table.{toks}
 use Rattle.rules.specs.Reading.{readAt, resultType}
 use Rattle.rules.specs.Binding.{slots, misplaced}
-use Rattle.rules.specs.DocumentRules.{find, byOperation, argumentFaults, documentFaults}
-use Rattle.rules.specs.Operations.{boundFaults}
+use Rattle.rules.specs.DocumentRules.{find, byOperation, argumentFaults, documentFaults, boundAt, leftFaults}
 use Rattle.rules.specs.Calls.{Calls, CallAt}
 use Rattle.rules.specs.declared.calls.Places.{Places}
 use Rattle.rules.proofs.Lookups.{calls-more, calls-none}
@@ -48,7 +47,7 @@ pub record Under (hs : List Header) (h : Header) (c : Call) (p : PlanCall) : Typ
 
 placed-none : (hs : List Header) (c : Call) {h : Header} → find hs (c .op) ≡ some h → argumentFaults hs c ≡ [] → misplaced (h .params) (c .args) ≡ []
 unfolding argumentFaults
-placed-none hs c e f = row-none _ (ap (λ (o : Option Header). byOperation o (λ h. boundFaults h c) []) (sym e) ∙ f) .0
+placed-none hs c e f = row-none _ (ap (λ (o : Option Header). byOperation o (λ h. boundAt (c .op .start) h c) []) (sym e) ∙ f) .0
 
 pub under : (hs : List Header) (c : Call) {h : Header} {p : PlanCall} → find hs (c .op) ≡ some h → argumentFaults hs c ≡ [] → planCall hs c ≡ some p → Under hs h c p
 under hs c {h} {p} e f g =

@@ -10,6 +10,7 @@ use borrow.Author.Tests.{le-leb, lt-leb, leb-true, leb-false, ne-eqb}
 use lib.Dec.{leb, eqb}
 use lib.ListN.{length, take, drop, replicate}
 use Rattle.lexis.specs.Sizes.{maxText, maxTokens, maxBrackets, scratchStart, workWords}
+use Rattle.lexis.specs.Code as L
 use Rattle.lexis.specs.Answer.{answer}
 use Rattle.lexis.specs.declared.Answer.{Answer}
 use Rattle.syntax.specs.Tree.{Header, Document}
@@ -19,15 +20,16 @@ use Rattle.syntax.specs.Table.{toks, Holds}
 use Rattle.rules.specs.ListRules.{listFaults}
 use Rattle.rules.specs.DocumentRules.{documentFaults}
 use Rattle.rules.specs.Lists.{Heads, NamePlaces}
-use Rattle.rules.specs.Answer.{Stage, pass, stop, andThen, guard, stageAnswer, listStages, documentStages, Checked, workAfter}
+use Rattle.rules.specs.Answer.{Stage, pass, stop, andThen, guard, stageAnswer, bothStages, Checked, workAfter}
+use Rattle.rules.proofs.Guards.{guard-room, guard-list, guard-document, guard-none, isGuard, kept, cleared-after}
 use Rattle.rules.specs.Stages.{BothPassed}
 use Rattle.rules.proofs.First.{first-none}
-use Rattle.rules.proofs.DocumentCodes.{joined, both-codes}
+use Rattle.rules.proofs.Refusals.{both-codes}
 use Rattle.rules.proofs.BothStages.{list-clean, document-clean, part-heads, part-places, both-under}
 use Rattle.canonical.specs.Plan.{Plan, planOf}
 use Rattle.canonical.specs.Pieces.{Piece, text}
 use Rattle.canonical.specs.Layout.{documentPieces}
-use Rattle.canonical.specs.Answer.{laidOut, layoutOf, writingStages, written, canonAnswer, outputAfter}
+use Rattle.canonical.specs.Answer.{laidOut, layoutOf, writingStages, textStages, CanonRoom, canonRoom, canonServes, written, canonAnswer, outputAfter}
 use Rattle.canonical.specs.Writing.{stored, placeAfter, PutsAll, Ranged, Wrote}
 use Rattle.canonical.specs.declared.place.Place.{Place}
 use Rattle.canonical.proofs.Measures.{passed-is, tallied-is, stored-is, stored-none, ranged}
@@ -44,36 +46,19 @@ pub wrote-stopped : {s : Stage (List ℕ)} {out out' : List ℕ} {q r : Answer} 
 unfolding outputAfter
 wrote-stopped e a k = wrote-as e a k
 
--- a work area is cleared after stages whose refusals have none of the codes 1 and 2
-cleared-after : {A : Type 0} (s : Stage A) (n : A → ℕ) → ((a : Answer) → s ≡ stop a → 3 ≤ a .code) → (work : List ℕ) {r : Answer} → r ≡ stageAnswer s n → replicate (length work) 0 ≡ workAfter r work
-unfolding workAfter
-cleared-after (pass a) n h work e = rw e
-cleared-after (stop q) n h work e = let c = h q refl in rw (e, ne-eqb (q .code) 1 (λ z. omega (arith, c, z)), ne-eqb (q .code) 2 (λ z. omega (arith, c, z)))
-
 module _ (list doc : List ℕ) (out : ℕ) where
   -- what canon does where the stages of both texts pass
   abbrev writes : Checked → Stage (List ℕ)
   writes k = writingStages (layoutOf (k .headers) (k .document)) out
 
-  text-after : textStages list doc out ≡ andThen (bothStages list doc) writes
-  unfolding textStages bothStages
-  text-after = first (listStages list)
-    where
-      second : (hs : List Header) (s : Stage Document) → andThen s (λ d. writingStages (layoutOf hs d) out) ≡ andThen (andThen s (λ d. joined hs d)) writes
-      second hs (pass d) = refl
-      second hs (stop r) = refl
-
-      first : (s : Stage (List Header)) → andThen s (λ hs. andThen (documentStages hs doc) (λ d. writingStages (layoutOf hs d) out)) ≡ andThen (andThen s (λ hs. andThen (documentStages hs doc) (λ d. joined hs d))) writes
-      first (pass hs) = second hs (documentStages hs doc)
-      first (stop r) = refl
-
   pub text-stopped : {r : Answer} → bothStages list doc ≡ stop r → textStages list doc out ≡ stop r
-  text-stopped e = text-after ∙ ap (λ (s : Stage Checked). andThen s writes) e
+  unfolding textStages
+  text-stopped e = ap (λ (s : Stage Checked). andThen s writes) e
 
   -- a refusal has none of the codes 1 and 2
-  text-codes : (r : Answer) → textStages list doc out ≡ stop r → 3 ≤ r .code
-  unfolding writingStages
-  text-codes r h = go (bothStages list doc) refl (sym text-after ∙ h)
+  pub text-codes : (r : Answer) → textStages list doc out ≡ stop r → 3 ≤ r .code
+  unfolding textStages writingStages
+  text-codes r h = go (bothStages list doc) refl h
     where
       size : (bs : List ℕ) (a b : Bool) → guard a (answer 25 0 0 0) (guard b (answer 26 0 0 (length bs)) (pass bs)) ≡ stop r → 3 ≤ r .code
       size bs false b e = let c : 25 ≡ r .code = ap (λ (x : Stage (List ℕ)). stageAnswer x length .code) e in omega arith
@@ -142,10 +127,9 @@ module _ {list doc work₁ work₂ : List ℕ} {n k m : ℕ} (b : BothPassed lis
   laid = documentPieces headers (plan .0)
 
   left-are : (out : ℕ) → textStages list doc out ≡ writingStages laid out
-  unfolding layoutOf
+  unfolding textStages layoutOf
   left-are out =
-      text-after list doc out
-      ∙ ap (λ (s : Stage Checked). andThen s (writes list doc out)) (both-under list doc (b .first .stages) (b .second .stages))
+      ap (λ (s : Stage Checked). andThen s (writes list doc out)) (both-under list doc (b .first .stages) (b .second .stages))
       ∙ ap (λ (o : Option Plan). writingStages (laidOut headers o) out) (plan .1)
 
   -- what putting it asks and ensures
@@ -193,19 +177,11 @@ module _ {list doc work₁ work₂ : List ℕ} {n k m : ℕ} (b : BothPassed lis
 
 -- ---- the guards
 
--- after code 1 or 2 a work area is as it was
-kept : (work : List ℕ) {q r : Answer} → (eqb (q .code) 1 || eqb (q .code) 2) ≡ true → r ≡ q → work ≡ workAfter r work
-unfolding workAfter
-kept work h e = sym (rw (e, h))
-
 module _ (list doc work₁ work₂ out : List ℕ) where
-  abbrev room : Bool
-  room = leb workWords (length work₁) && leb workWords (length work₂)
+  abbrev room : CanonRoom
+  room = canonRoom work₁ work₂ out
 
-  abbrev stages : Stage (List ℕ)
-  stages = written list doc (length work₁) (length work₂) (length out)
-
-  pub room-parts : room ≡ true → (workWords ≤ length work₁) × (workWords ≤ length work₂)
+  pub room-parts : canonServes room ≡ true → (workWords ≤ length work₁) × (workWords ≤ length work₂)
   room-parts e =
       let a = and-eq-true-iff (leb workWords (length work₁)) (leb workWords (length work₂)) .0 e in
       (leb-true workWords (length work₁) (a .0), leb-true workWords (length work₂) (a .1))
@@ -213,32 +189,31 @@ module _ (list doc work₁ work₂ out : List ℕ) where
   -- what canon ensures of its answer, of the output and of both work areas afterwards
   abbrev Ensured : Answer → List ℕ → List ℕ → List ℕ → Type 0
   Ensured r out' work₁' work₂' =
-      (r ≡ canonAnswer list doc (length work₁) (length work₂) (length out)) × ((out' ≡ outputAfter stages out) × ((work₁' ≡ workAfter r work₁) × (work₂' ≡ workAfter r work₂)))
+      (r ≡ canonAnswer list doc room) × ((out' ≡ outputAfter (written list doc room) out) × ((work₁' ≡ workAfter r work₁) × (work₂' ≡ workAfter r work₂)))
 
   -- a refusal by a guard
-  refused : {q r : Answer} → stages ≡ stop q → (eqb (q .code) 1 || eqb (q .code) 2) ≡ true → r ≡ q → Ensured r out work₁ work₂
+  refused : {q r : Answer} → written list doc room ≡ stop q → isGuard (q .code) ≡ true → r ≡ q → Ensured r out work₁ work₂
   unfolding canonAnswer
   refused e h a = let w = wrote-stopped e a refl in (w .answered, (w .output, (kept work₁ h a, kept work₂ h a)))
 
-  pub refused-room : {r : Answer} → room ≡ false → r ≡ answer 1 0 0 0 → Ensured r out work₁ work₂
+  pub refused-room : {r : Answer} → canonServes room ≡ false → r ≡ answer L.shortTable 0 0 0 → Ensured r out work₁ work₂
   unfolding written
-  refused-room e a = refused (rw e) refl a
+  refused-room e a = refused (guard-room list doc (textStages list doc (length out)) e) refl a
 
-  pub refused-list : {r : Answer} → room ≡ true → leb (length list) maxText ≡ false → r ≡ answer 2 1 maxText 0 → Ensured r out work₁ work₂
+  pub refused-list : {r : Answer} → canonServes room ≡ true → leb (length list) maxText ≡ false → r ≡ answer L.longText 1 maxText 0 → Ensured r out work₁ work₂
   unfolding written
-  refused-list e f a = refused (rw (e, f)) refl a
+  refused-list e f a = refused (guard-list list doc (textStages list doc (length out)) e f) refl a
 
-  pub refused-document : {r : Answer} → room ≡ true → leb (length list) maxText ≡ true → leb (length doc) maxText ≡ false → r ≡ answer 2 2 maxText 0 → Ensured r out work₁ work₂
+  pub refused-document : {r : Answer} → canonServes room ≡ true → leb (length list) maxText ≡ true → leb (length doc) maxText ≡ false → r ≡ answer L.longText 2 maxText 0 → Ensured r out work₁ work₂
   unfolding written
-  refused-document e f g a = refused (rw (e, f, g)) refl a
+  refused-document e f g a = refused (guard-document list doc (textStages list doc (length out)) e f g) refl a
 
   -- the stages after the guards, then both work areas are cleared
-  pub ended : {r : Answer} {out' work₁' work₂' : List ℕ} {n m : ℕ} → room ≡ true → leb (length list) maxText ≡ true → leb (length doc) maxText ≡ true
+  pub ended : {r : Answer} {out' work₁' work₂' : List ℕ} {n m : ℕ} → canonServes room ≡ true → leb (length list) maxText ≡ true → leb (length doc) maxText ≡ true
       → Wrote (textStages list doc (length out)) out out' r → work₁' ≡ replicate n 0 → n ≡ length work₁ → work₂' ≡ replicate m 0 → m ≡ length work₂ → Ensured r out' work₁' work₂'
-  unfolding canonAnswer written textStages
-  ended {r} {n = n} {m} e f g w z i y j =
-      let v = wrote-as {s = stages} (rw (e, f, g)) (w .answered) (w .output) in
-      (v .answered, (v .output, (z ∙ cleared n work₁ i, y ∙ cleared m work₂ j)))
-    where
-      cleared : (k : ℕ) (work : List ℕ) → k ≡ length work → replicate k 0 ≡ workAfter r work
-      cleared k work l = ap (λ (x : ℕ). replicate {A = ℕ} x 0) l ∙ cleared-after (textStages list doc (length out)) length (text-codes list doc (length out)) work (w .answered)
+  unfolding canonAnswer written
+  ended {n = n} {m} e f g w z i y j =
+      let t = textStages list doc (length out) in
+      let v = wrote-as (guard-none list doc t e f g) (w .answered) (w .output) in
+      let c = text-codes list doc (length out) in
+      (v .answered, (v .output, (z ∙ cleared-after t length c n work₁ i (w .answered), y ∙ cleared-after t length c m work₂ j (w .answered))))

@@ -1,5 +1,4 @@
--- Worked examples, by computation. The table of the cases P1 to P12, under one statement; then documents that look different and say the
--- same, two by two, with their one canonical text.
+-- Worked examples, by computation: the table of the cases P1 to P12, under one statement.
 use Prim.Native.Nat.{ℕ}
 use Prim.Native.String.{String}
 use mathlib.Core.Path.{_≡_, refl}
@@ -61,7 +60,7 @@ tokensOf (accepted ts) = ts
 tokensOf (refused c p) = []
 
 checks : String → String → Answer → Case
-checks list doc r = record { gives = numbers (checkAnswer (ascii list) (ascii doc) workWords workWords callWords wireWords); is = numbers r }
+checks list doc r = record { gives = numbers (checkAnswer (ascii list) (ascii doc) (record { work₁ = workWords; work₂ = workWords; calls = callWords; wires = wireWords })); is = numbers r }
 
 outcome : Lexed → Outcome
 outcome (accepted ts) = kinds (map (λ (t : Token). t .kind) ts)
@@ -87,7 +86,7 @@ bytesOf (stop r) = numbers r
 
 -- lent an output of so many bytes
 writes : String → String → ℕ → String → Case
-writes list doc n text = record { gives = bytesOf (written (ascii list) (ascii doc) workWords workWords n); is = bytes (ascii text) }
+writes list doc n text = record { gives = bytesOf (written (ascii list) (ascii doc) (record { work₁ = workWords; work₂ = workWords; out = n })); is = bytes (ascii text) }
 
 pub cases : List Case
 cases =
@@ -125,47 +124,5 @@ cases =
     ∷ []
 
 pub right : map (λ (c : Case). c .gives) cases ≡ map (λ (c : Case). c .is) cases
-unfolding flatten flatMap classOf spanLen gapFrom sameBytes words kindIn fracLen signLen isE expLen partsOf sticks valueFrom writtenOf minusOf strip reducedOf isNear isSmall inRange numberLexeme wordLexeme stringLexeme takesEqual isPair isArrow markLexeme lexeme admit lexFrom keywordSymbol symbolOf symOf P.expect P.follow P.rowF P.row P.valueStep P.arrayItems P.tupleItems P.bracketed P.value P.typeName P.dims P.tupleTypes P.baseStep P.type P.default P.param P.result P.header P.operations P.argument P.left P.call P.document R.readAt R.readAll R.readEach R.fits R.allTensor R.allTensors R.typesOf R.resultType B.leading B.byName B.slotsFrom D.find Plan.valueFor Plan.valuesFor Plan.planCall Plan.planCalls Plan.planOf F.before F.first N.those N.isAmong N.repeatsAfter N.namesIn N.namesOf N.used N.allAssigned N.allUsed L.listCounts L.listRepeats L.badDefaults L.listFaults B.labels B.taken B.misplacedFrom B.misnamed B.misfits B.missingFrom W.again W.unwiredAfter W.misfedBy W.misfed W.unmade D.badVersion D.documentCounts D.graphRepeats D.undeclared D.argumentFaults D.unmatched D.documentFaults A.listStages A.documentStages A.checked A.checkAnswer S.digitsBy S.digits S.spellExponent S.spellNumber S.holdsSingle S.quoteFor S.spellString Pieces.text Layout.pieces Layout.items Layout.moreItems Layout.leftPieces Layout.moreNames Layout.names Layout.moreArguments Layout.arguments Layout.paramsOf Layout.callPieces Layout.callsPieces Layout.document C.layoutOf C.writingStages C.written cases tokensOf checks outcome lexes reduces fitsParsed suits bytesOf writes
+unfolding flatten flatMap classOf spanLen gapFrom sameBytes words kindIn fracLen signLen isE expLen partsOf sticks valueFrom writtenOf minusOf strip reducedOf isNear isSmall inRange numberLexeme wordLexeme stringLexeme takesEqual isPair isArrow markLexeme lexeme admit lexFrom keywordSymbol symbolOf symOf P.expect P.follow P.rowF P.row P.valueStep P.arrayItems P.tupleItems P.bracketed P.value P.typeName P.dims P.tupleTypes P.baseStep P.type P.default P.param P.result P.header P.operations P.argument P.left P.call P.document R.readAt R.readAll R.readEach R.fits R.allTensor R.allTensors R.typesOf R.resultType B.leading B.byName B.slotsFrom D.operationOf Plan.valueFor Plan.valuesFor Plan.planCall Plan.planCalls Plan.planOf F.before F.first N.those N.isAmong N.repeatsAfter N.namesIn N.namesOf N.used N.allAssigned N.allUsed L.listCounts L.listRepeats L.badDefaults L.listFaults B.labels B.taken B.misplacedFrom B.misnamed B.misfits B.lacked W.again W.unwiredAfter W.misfedBy W.misfed W.unmade D.badVersion D.documentCounts D.graphRepeats D.undeclared D.argumentFaults D.unmatched D.documentFaults A.listStages A.documentStages A.bothStages A.checked A.checkAnswer S.decimalBy S.decimal S.spellExponent S.spellNumber S.holdsSingle S.quoteFor S.spellString Pieces.text Layout.pieces Layout.items Layout.moreItems Layout.leftPieces Layout.moreNamesPieces Layout.namesPieces Layout.moreArgumentsPieces Layout.argumentsPieces Layout.callPieces Layout.callsPieces Layout.documentPieces C.layoutOf C.writingStages C.textStages C.written cases tokensOf checks outcome lexes reduces fitsParsed suits bytesOf writes
 right = refl
-
--- ---- one plan, two spellings
-
--- a document under this list, and its canonical text
-respelt : String → String → Case
-respelt doc text =
-    writes
-    "fragment external(shape: extent[]) -> (output: tensor) fragment scale(x: tensor, by: scalar = 1, note: string = '') -> (y: tensor) fragment split(x: tensor) -> (a: tensor, b: tensor)"
-    doc 1000 text
-
--- Two documents at a time that look different and say the same: `equal-plans` of the theorems says that their bytes are equal, and these are the bytes.
-pub spellings : List Case
-spellings =
-    -- white space and comments
-    respelt "version 1.0 graph g(p)->(q){p=external(shape=[2]);q=scale(p);}" "version 1.0\ngraph g(p)->(q)\n{\np=external(shape=[2]);\nq=scale(x=p,by=1e0,note='');\n}\n"
-    ∷ respelt "version 1.0 # one\ngraph g( p ) -> ( q )\n{ p = external( shape = [ 2 ] ) ;\n\tq = scale( p ) ; }" "version 1.0\ngraph g(p)->(q)\n{\np=external(shape=[2]);\nq=scale(x=p,by=1e0,note='');\n}\n"
-    -- the order of named arguments
-    ∷ respelt "version 1.0 graph g(p)->(q){p=external(shape=[2]);q=scale(x=p,by=3,note='n');}" "version 1.0\ngraph g(p)->(q)\n{\np=external(shape=[2]);\nq=scale(x=p,by=3e0,note='n');\n}\n"
-    ∷ respelt "version 1.0 graph g(p)->(q){p=external(shape=[2]);q=scale(note='n',x=p,by=3);}" "version 1.0\ngraph g(p)->(q)\n{\np=external(shape=[2]);\nq=scale(x=p,by=3e0,note='n');\n}\n"
-    -- positional or named
-    ∷ respelt "version 1.0 graph g(p)->(q){p=external(shape=[2]);q=scale(p,by=3);}" "version 1.0\ngraph g(p)->(q)\n{\np=external(shape=[2]);\nq=scale(x=p,by=3e0,note='');\n}\n"
-    ∷ respelt "version 1.0 graph g(p)->(q){p=external(shape=[2]);q=scale(x=p,by=3);}" "version 1.0\ngraph g(p)->(q)\n{\np=external(shape=[2]);\nq=scale(x=p,by=3e0,note='');\n}\n"
-    -- a default, or the same written out
-    ∷ respelt "version 1.0 graph g(p)->(q){p=external(shape=[2]);q=scale(p);}" "version 1.0\ngraph g(p)->(q)\n{\np=external(shape=[2]);\nq=scale(x=p,by=1e0,note='');\n}\n"
-    ∷ respelt "version 1.0 graph g(p)->(q){p=external(shape=[2]);q=scale(p,by=1.0,note='');}" "version 1.0\ngraph g(p)->(q)\n{\np=external(shape=[2]);\nq=scale(x=p,by=1e0,note='');\n}\n"
-    -- spellings of numbers
-    ∷ respelt "version 1.0 graph g(p)->(q){p=external(shape=[02]);q=scale(p,by=0.50);}" "version 1.0\ngraph g(p)->(q)\n{\np=external(shape=[2]);\nq=scale(x=p,by=5e-1,note='');\n}\n"
-    ∷ respelt "version 1.0 graph g(p)->(q){p=external(shape=[2]);q=scale(p,by=5e-1);}" "version 1.0\ngraph g(p)->(q)\n{\np=external(shape=[2]);\nq=scale(x=p,by=5e-1,note='');\n}\n"
-    -- quotes
-    ∷ respelt "version 1.0 graph g(p)->(q){p=external(shape=[2]);q=scale(p,note='n');}" "version 1.0\ngraph g(p)->(q)\n{\np=external(shape=[2]);\nq=scale(x=p,by=1e0,note='n');\n}\n"
-    ∷ respelt "version 1.0 graph g(p)->(q){p=external(shape=[2]);q=scale(p,note=\"n\");}" "version 1.0\ngraph g(p)->(q)\n{\np=external(shape=[2]);\nq=scale(x=p,by=1e0,note='n');\n}\n"
-    -- a bare or a bracketed top tuple
-    ∷ respelt "version 1.0 graph g(p)->(q){p=external(shape=[2]);q,r=split(p);}" "version 1.0\ngraph g(p)->(q)\n{\np=external(shape=[2]);\nq,r=split(x=p);\n}\n"
-    ∷ respelt "version 1.0 graph g(p)->(q){p=external(shape=[2]);(q,r)=split(p);}" "version 1.0\ngraph g(p)->(q)\n{\np=external(shape=[2]);\nq,r=split(x=p);\n}\n"
-    -- semicolons or none
-    ∷ respelt "version 1.0 graph g(p)->(q){p=external(shape=[2]);q=scale(p);}" "version 1.0\ngraph g(p)->(q)\n{\np=external(shape=[2]);\nq=scale(x=p,by=1e0,note='');\n}\n"
-    ∷ respelt "version 1.0 graph g(p)->(q){p=external(shape=[2])q=scale(p)}" "version 1.0\ngraph g(p)->(q)\n{\np=external(shape=[2]);\nq=scale(x=p,by=1e0,note='');\n}\n"
-    ∷ []
-
-pub one-text : map (λ (c : Case). c .gives) spellings ≡ map (λ (c : Case). c .is) spellings
-unfolding flatten flatMap classOf spanLen gapFrom sameBytes words kindIn fracLen signLen isE expLen partsOf sticks valueFrom writtenOf minusOf strip reducedOf isNear isSmall inRange numberLexeme wordLexeme stringLexeme takesEqual isPair isArrow markLexeme lexeme admit lexFrom keywordSymbol symbolOf symOf P.expect P.follow P.rowF P.row P.valueStep P.arrayItems P.tupleItems P.bracketed P.value P.typeName P.dims P.tupleTypes P.baseStep P.type P.default P.param P.result P.header P.operations P.argument P.left P.call P.document R.readAt R.readAll R.readEach R.fits R.allTensor R.allTensors R.typesOf R.resultType B.leading B.byName B.slotsFrom D.find Plan.valueFor Plan.valuesFor Plan.planCall Plan.planCalls Plan.planOf F.before F.first N.those N.isAmong N.repeatsAfter N.namesIn N.namesOf N.used N.allAssigned N.allUsed L.listCounts L.listRepeats L.badDefaults L.listFaults B.labels B.taken B.misplacedFrom B.misnamed B.misfits B.missingFrom W.again W.unwiredAfter W.misfedBy W.misfed W.unmade D.badVersion D.documentCounts D.graphRepeats D.undeclared D.argumentFaults D.unmatched D.documentFaults A.listStages A.documentStages A.checked A.checkAnswer S.digitsBy S.digits S.spellExponent S.spellNumber S.holdsSingle S.quoteFor S.spellString Pieces.text Layout.pieces Layout.items Layout.moreItems Layout.leftPieces Layout.moreNames Layout.names Layout.moreArguments Layout.arguments Layout.paramsOf Layout.callPieces Layout.callsPieces Layout.document C.layoutOf C.writingStages C.written spellings respelt bytesOf writes
-one-text = refl

@@ -10,7 +10,7 @@ use Rattle.syntax.specs.Tree.{Value, Values, Param, Header}
 use Rattle.syntax.specs.Symbol.{rightRound}
 use Rattle.syntax.specs.Grammar.{Separated, last, next, literals, Spells, a-name, a-literal, an-empty-array, an-array, a-tuple, Items, last-item, next-item, IsDefault, no-default, a-default, IsParam, a-param, IsHeader, a-header, IsList, no-header, a-header-more}
 use Rattle.rules.specs.Names.{namesIn, namesOf}
-use Rattle.rules.specs.DocumentRules.{find}
+use Rattle.rules.specs.DocumentRules.{operationOf, find}
 use Rattle.canonical.proofs.Planned.{nothing-some}
 
 mutual
@@ -48,7 +48,7 @@ header-bare (a-header f n o p a q r) = params-bare p
 
 -- an operation that is found
 pub found-bare : {b : ℕ} {ts : List Token} {hs : List Header} (t : Token) {h : Header} → IsList b ts hs → find hs t ≡ some h → Bare (h .params)
-unfolding find
+unfolding operationOf
 found-bare t no-header e = nothing-some e
 found-bare t {h} (a-header-more {h = g} {hs = hs} i l) e = go (sameBytes (g .name .bytes) (t .bytes)) e (found-bare t l)
   where

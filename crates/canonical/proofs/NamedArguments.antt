@@ -12,7 +12,7 @@ use Rattle.syntax.specs.Tree.{Value, Ty, Param, Arg}
 use Rattle.rules.specs.Names.{those, isAmong, repeatsAfter, repeats}
 use Rattle.rules.specs.Reading.{Val, bind, readAt, isSome, fits}
 use Rattle.rules.specs.ListRules.{paramNames}
-use Rattle.rules.specs.Binding.{Slot, leading, labels, byName, orElse, slotsFrom, slots, later, taken, misplacedFrom, misnamed, misfit, misfits, missingFrom}
+use Rattle.rules.specs.Binding.{Slot, leading, labels, byName, orElse, slotsFrom, slots, later, taken, misplacedFrom, misnamed, misfit, misfits, lacked}
 use Rattle.rules.specs.Wiring.{strangers}
 use Rattle.rules.proofs.Lookups.{among-append}
 use Rattle.rules.proofs.Sought.{same-self, same-sym}
@@ -33,8 +33,8 @@ slot-given u (some x) d h = refl
 slot-given u nothing (some x) h = refl
 slot-given u nothing nothing h = nothing-some h
 
-pub values-bound : (place k : ℕ) (ss : List Slot) {vs : List Val} → valuesFor ss ≡ some vs → (misfits ss ≡ []) × (missingFrom place k ss ≡ [])
-unfolding valuesFor valueFor misfits flatMap missingFrom
+pub values-bound : (place k : ℕ) (ss : List Slot) {vs : List Val} → valuesFor ss ≡ some vs → (misfits ss ≡ []) × (lacked place k (map isMissing ss) ≡ [])
+unfolding valuesFor valueFor misfits flatMap lacked
 values-bound place k [] h = (refl, refl)
 values-bound place k (s ∷ ss) h =
     let x = both (valueFor s) (valuesFor ss) (λ w ws. w ∷ ws) h in

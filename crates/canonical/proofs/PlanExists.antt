@@ -15,10 +15,10 @@ use Rattle.rules.specs.Reading.{Val, bind, isSome, fits, readAt, resultType}
 use Rattle.rules.specs.ListRules.{badDefault, listFaults}
 use Rattle.rules.specs.Lists.{defaultFaults}
 use Rattle.rules.specs.Lists as L
-use Rattle.rules.specs.Binding.{Slot, slotsFrom, later, byPlace, byName, orElse, misfit, misfits, isMissing, missingFrom}
-use Rattle.rules.specs.DocumentRules.{find, documentFaults}
+use Rattle.rules.specs.Binding.{Slot, slotsFrom, later, byPlace, byName, orElse, misfit, misfits, isMissing, lacked}
+use Rattle.rules.specs.DocumentRules.{operationOf, find, documentFaults, boundAt, leftFaults}
 use Rattle.rules.specs.Walks.{ownFaults}
-use Rattle.rules.specs.Operations.{operationFaults, boundFaults, leftFaults}
+use Rattle.rules.specs.Operations.{operationFaults}
 use Rattle.rules.proofs.Items.{clash}
 use Rattle.rules.proofs.First.{first-none}
 use Rattle.rules.proofs.DocumentFaults.{neither, document-parts, own-clean}
@@ -41,7 +41,7 @@ flat-none f (x ∷ xs) h = let e = append-eq-nil-iff {p = f x} {q = flatMap f xs
 
 -- what every header has, the one that is found has
 pub find-each : (P : Header → Type 0) (hs : List Header) (t : Token) (h : Header) → Each P hs → find hs t ≡ some h → P h
-unfolding find
+unfolding operationOf
 find-each P [] t h a e = clash cc
 find-each P (g ∷ hs) t h a e = go (sameBytes (g .name .bytes) (t .bytes)) e (find-each P hs t h (a .1))
   where
@@ -74,17 +74,17 @@ value-some u nothing (some v) n f m = read-some v u (fault 14 (startOf v)) n
 value-some u nothing nothing n f m = absurd (true≢false m)
 
 -- no slot is missing a value
-not-missing : (place k : ℕ) (s : Slot) (ss : List Slot) → missingFrom place k (s ∷ ss) ≡ [] → (isMissing s ≡ false) × (missingFrom place (suc k) ss ≡ [])
-unfolding missingFrom
+not-missing : (place k : ℕ) (s : Slot) (ss : List Slot) → lacked place k (map isMissing (s ∷ ss)) ≡ [] → (isMissing s ≡ false) × (lacked place (suc k) (map isMissing ss) ≡ [])
+unfolding lacked
 not-missing place k s ss h = go (isMissing s) h
   where
-    go : (b : Bool) → cond b (record { at = place; code = 19; detail = k } ∷ []) (missingFrom place (suc k) ss) ≡ []
-        → (b ≡ false) × (missingFrom place (suc k) ss ≡ [])
+    go : (b : Bool) → cond b (record { at = place; code = 19; detail = k } ∷ []) (lacked place (suc k) (map isMissing ss)) ≡ []
+        → (b ≡ false) × (lacked place (suc k) (map isMissing ss) ≡ [])
     go true h = clash cc
     go false h = (refl, h)
 
 values-some : (place k : ℕ) (ps : List Param) (vs : List Value) (xs : List Arg) → defaultFaults ps ≡ [] → misfits (slotsFrom ps vs xs) ≡ []
-    → missingFrom place k (slotsFrom ps vs xs) ≡ [] → (ws : List Val) × (valuesFor (slotsFrom ps vs xs) ≡ some ws)
+    → lacked place k (map isMissing (slotsFrom ps vs xs)) ≡ [] → (ws : List Val) × (valuesFor (slotsFrom ps vs xs) ≡ some ws)
 unfolding slotsFrom misfits flatMap valueFor valuesFor
 values-some place k [] vs xs d f m = ([], refl)
 values-some place k (p ∷ ps) vs xs d f m =
@@ -109,7 +109,7 @@ call-some hs c l n = go (find hs (c .op)) refl
     go : (o : Option Header) → find hs (c .op) ≡ o → (p : PlanCall) × (planCall hs c ≡ some p)
     go nothing e = let q = unknown hs c e in clash cc
     go (some h) e =
-        let q = append-eq-nil-iff {p = boundFaults h c} {q = leftFaults h c} .0 (first-none (boundFaults h c ++ leftFaults h c) (sym (known hs c h e) ∙ none)) in
+        let q = append-eq-nil-iff {p = boundAt (c .op .start) h c} {q = leftFaults h c} .0 (first-none (boundAt (c .op .start) h c ++ leftFaults h c) (sym (known hs c h e) ∙ none)) in
         let b = row-none _ (q .0) in
         let d = row-none _ (found-clean hs (c .op) h l e) in
         let w = read-some (c .left) (resultType (h .results)) (fault 20 (startOf (c .left))) (q .1) in

@@ -80,8 +80,8 @@ module _ (s : List ℕ) (r : List Piece) where
   more-names-back [] at = no-others s at r refl
   more-names-back (w ∷ ws) at = let i = past at (mark (ascii ",")) in others at (name-back w i (more-names-back ws (past i (namePiece w))))
 
-  names-back : {ws : List (List ℕ)} → NamesFit ws → (at : ℕ) → RowBack IsName (Spelt ws) at (Layout.names ws (closing s ∷ r)) r
-  unfolding Layout.names
+  names-back : {ws : List (List ℕ)} → NamesFit ws → (at : ℕ) → RowBack IsName (Spelt ws) at (Layout.namesPieces ws (closing s ∷ r)) r
+  unfolding Layout.namesPieces
   names-back (one-name {w} h) at = name-back w at (more-names-back [] (past at (namePiece w)))
   names-back (more-names {w} {ws} h f) at = name-back w at (more-names-back ws (past at (namePiece w)))
 
@@ -206,7 +206,7 @@ document-back hs p f =
     let body = c ∷ callsPieces hs (p .calls) (lined Kind.syntactic (ascii "}") ∷ []) in
     let i = past 0 (spaced Kind.keyword (ascii "version")) in
     let j = past (past i number) (spaced Kind.keyword (ascii "graph")) in
-    let x = names-back [] (a ∷ o ∷ Layout.names (p .outputs) (closing (10 ∷ []) ∷ body)) (f .inputs) (past (past j n) o) in
+    let x = names-back [] (a ∷ o ∷ Layout.namesPieces (p .outputs) (closing (10 ∷ []) ∷ body)) (f .inputs) (past (past j n) o) in
     let y = names-back (10 ∷ []) body (f .outputs) (past (past (x .after) a) o) in
     let z = body-back (f .calls) (past (y .after) c) [] in
     let d : Document = record { version = placed i number; graph = placed j n; inputs = x .trees; outputs = y .trees; calls = z .trees } in

@@ -9,14 +9,13 @@ use borrow.Author.Tests.{leb-true}
 use lib.Dec.{leb}
 use lib.ListN.{length, take, length-append}
 use lib.Seq.{sets, sets-eq, take-append-seam}
-use Rattle.lexis.specs.Sizes.{maxText, maxTokens, workWords}
+use Rattle.lexis.specs.Sizes.{maxText, maxTokens}
 use Rattle.lexis.specs.Answer.{answer}
 use Rattle.lexis.specs.declared.Answer.{Answer}
-use Rattle.rules.specs.Answer.{Stage, pass, stop, andThen, guard, listStages, documentStages, stageAnswer}
-use Rattle.rules.proofs.Codes.{stage-codes}
-use Rattle.rules.proofs.DocumentCodes.{document-codes}
+use Rattle.rules.specs.Answer.{Stage, pass, stop, andThen, guard, bothStages, stageAnswer}
+use Rattle.rules.proofs.Refusals.{both-codes}
 use Rattle.canonical.specs.Pieces.{Piece, text}
-use Rattle.canonical.specs.Answer.{layoutOf, writingStages, written, canonAnswer, outputAfter}
+use Rattle.canonical.specs.Answer.{layoutOf, writingStages, textStages, CanonRoom, canonRoom, canonServes, written, canonAnswer, outputAfter}
 use Rattle.canonical.specs.Program.{printed, shown}
 use Rattle.canonical.specs.Writing.{passed, stored, numberThen}
 use Rattle.canonical.proofs.Digits.{digits-length}
@@ -64,14 +63,13 @@ sound-writing ps n =
     sound-guard o (answer 26 0 0 (length (text ps))) (pass (text ps)) (omega arith) λ h.
     passes (leb-true (length (text ps)) maxText (and-eq-true-iff k m .0 l .0)) (leb-true (length (text ps)) n h)
 
-sound-written : (list doc : List ℕ) (work₁ work₂ n : ℕ) → Sound n (written list doc work₁ work₂ n)
-unfolding written
-sound-written list doc work₁ work₂ n =
-    sound-guard (leb workWords work₁ && leb workWords work₂) (answer 1 0 0 0) _ (omega arith) λ _.
+sound-written : (list doc : List ℕ) (l : CanonRoom) → Sound (l .out) (written list doc l)
+unfolding written textStages
+sound-written list doc l =
+    sound-guard (canonServes l) (answer 1 0 0 0) _ (omega arith) λ _.
     sound-guard (leb (length list) maxText) (answer 2 1 maxText 0) _ (omega arith) λ _.
     sound-guard (leb (length doc) maxText) (answer 2 2 maxText 0) _ (omega arith) λ _.
-    sound-then (listStages list) _ (stage-codes list) λ hs.
-    sound-then (documentStages hs doc) _ (document-codes hs doc) λ d. sound-writing (layoutOf hs d) n
+    sound-then (bothStages list doc) _ (both-codes list doc) λ k. sound-writing (layoutOf (k .headers) (k .document)) (l .out)
 
 -- ---- the text or the numbers
 
@@ -81,21 +79,21 @@ in-full out bytes h l =
     let p = passed-is 0 bytes (omega arith) in
     (omega (arith, p, l), sym (stored-is out 0 bytes (omega (arith, h)) (omega (arith, l))))
 
-module _ (list doc : List ℕ) (work₁ work₂ : ℕ) (out : List ℕ) where
+module _ (list doc work₁ work₂ out : List ℕ) where
   abbrev stages : Stage (List ℕ)
-  stages = written list doc work₁ work₂ (length out)
+  stages = written list doc (canonRoom work₁ work₂ out)
 
   -- after acceptance the output holds the text
-  pub text-shown : {a : Answer} {out' : List ℕ} → a ≡ canonAnswer list doc work₁ work₂ (length out) → out' ≡ outputAfter stages out → a .code ≡ 0 → Stores (shown stages) out out' 0 (a .detail)
+  pub text-shown : {a : Answer} {out' : List ℕ} → a ≡ canonAnswer list doc (canonRoom work₁ work₂ out) → out' ≡ outputAfter stages out → a .code ≡ 0 → Stores (shown stages) out out' 0 (a .detail)
   unfolding canonAnswer outputAfter
-  text-shown {a} {out'} e o z = go stages (sound-written list doc work₁ work₂ (length out)) e o
+  text-shown {a} {out'} e o z = go stages (sound-written list doc (canonRoom work₁ work₂ out)) e o
     where
       go : (s : Stage (List ℕ)) → Sound (length out) s → a ≡ stageAnswer s length → out' ≡ outputAfter s out → Stores (shown s) out out' 0 (a .detail)
       go (pass bytes) (passes l h) e o = rw (e, o) (in-full out bytes h l)
       go (stop r) (stops c) e o = let d : a .code ≡ r .code = ap (λ (x : Answer). x .code) e in absurd (omega (arith, d, z, c))
 
   -- after a refusal the output is as it was, and its numbers are stored there
-  pub numbers-shown : {a : Answer} {mid out' : List ℕ} {end : ℕ} → a ≡ canonAnswer list doc work₁ work₂ (length out) → mid ≡ outputAfter stages out → (a .code ≡ 0 → ⊥)
+  pub numbers-shown : {a : Answer} {mid out' : List ℕ} {end : ℕ} → a ≡ canonAnswer list doc (canonRoom work₁ work₂ out) → mid ≡ outputAfter stages out → (a .code ≡ 0 → ⊥)
       → Stores (printed a) mid out' 0 end → Stores (shown stages) out out' 0 end
   unfolding canonAnswer outputAfter
   numbers-shown {a} {mid} {out'} {end} e o n p = go stages e o

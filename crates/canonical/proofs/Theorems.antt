@@ -1,35 +1,38 @@
--- The claims of `canon`, each proved in a few lines from the laws below it: demand 3 clause by clause, then what demands 1 and 2 say of
--- `canon`. An operation list of the headers hs is fixed; a document is taken with its plan (`HasPlan`: it is accepted under the list).
+-- The claims of `canon`, each proved in a few lines from the laws below it: plans; demand 3; acceptance and refusals. An operation list of
+-- the headers hs is fixed; a document is taken with its plan (`HasPlan`: it is accepted under the list). The page of the demands cites these.
 use mathlib.Core.Path.{_≡_, refl, sym, ap, _∙_}
 use mathlib.Core.Bool.{Bool, true, false, _&&_}
 use mathlib.Core.List.{List}
 use mathlib.Core.Logic.{_↔_}
+use mathlib.Core.Option.{some}
 use Prim.Native.Nat.{ℕ, _+_, _≤_, _<_}
 use native.Mathlib.Omega.{arith}
 use lib.Dec.{leb}
 use lib.ListN.{length, drop}
 use lib.Seq.{sets, sets-eq, take-append-seam}
 use borrow.Author.Tests.{le-leb, lt-leb, leb-true}
-use Rattle.lexis.specs.Sizes.{maxText, maxTokens, maxBrackets, workWords, callWords, wireWords}
+use Rattle.lexis.specs.Sizes.{maxText, maxTokens, maxBrackets, workWords}
+use Rattle.lexis.specs.Code as Code
 use Rattle.lexis.specs.Answer.{answer}
 use Rattle.lexis.specs.declared.Answer.{Answer}
-use Rattle.lexis.specs.Lexer.{accepted}
 use Rattle.syntax.specs.Tree.{Header, Document}
 use Rattle.syntax.proofs.Theorems.{one-document}
-use Rattle.rules.specs.Answer.{Stage, pass, stop, andThen, guard, roomy, listStages, documentStages, stageAnswer, Checked, checked, checkAnswer, tableAfter}
+use Rattle.rules.specs.Answer.{Stage, pass, stop, andThen, guard, guarded, bothStages, stageAnswer, Checked, CheckRoom, checkServes, checked, callCount, checkAnswer, tableAfter}
 use Rattle.rules.specs.Accepted.{AcceptedList, AcceptedDocument}
-use Rattle.rules.proofs.Acceptance.{list-passes, document-passes}
-use Rattle.canonical.specs.Plan.{Plan}
-use Rattle.canonical.specs.Pieces.{text}
+use Rattle.rules.proofs.Theorems.{both-pass, both-passed, guarded-good, guarded-passed, guarded-codes, answer-passed}
+use Rattle.canonical.specs.Code as Writing
+use Rattle.canonical.specs.Plan.{Plan, planOf}
+use Rattle.canonical.specs.Pieces.{Piece, text}
 use Rattle.canonical.specs.Layout.{documentPieces, canonical}
-use Rattle.canonical.specs.Answer.{layoutOf, writingStages, written, canonAnswer, outputAfter}
-use Rattle.canonical.specs.Demand.{HasPlan, Keeps, Lent, Serves, numbers, output, bytesWritten}
+use Rattle.canonical.specs.Answer.{layoutOf, writingStages, textStages, canonServes, written, canonAnswer, outputAfter}
+use Rattle.canonical.specs.Demand.{HasPlan, Keeps, Lent, roomOf, Serves, numbers, output, bytesWritten}
 use Rattle.canonical.proofs.PlanExists.{plan-exists}
 use Rattle.canonical.proofs.PlanFitted.{plan-fits}
 use Rattle.canonical.proofs.CanonicalTokens.{lex-canonical}
 use Rattle.canonical.proofs.RereadDocument.{document-back}
 use Rattle.canonical.proofs.Replan.{canon-plan}
 use Rattle.canonical.proofs.CanonicalFaults.{canon-clean}
+use Rattle.canonical.proofs.CanonStages.{text-codes}
 
 -- ---- plans
 
@@ -44,25 +47,47 @@ one-plan hs doc p q x y =
     let t : x .tree ≡ y .tree = one-document maxBrackets maxBrackets (y .accepted .tokens) (x .tree) (y .tree) (rw e at (x .accepted .spelt)) (y .accepted .spelt) in
     cc (x .planned, y .planned, t)
 
+-- ---- the stages of canon
+
+layout-is : (hs : List Header) (d : Document) (p : Plan) → planOf hs d ≡ some p → layoutOf hs d ≡ documentPieces hs p
+unfolding layoutOf
+layout-is hs d p e = rw e
+
+-- lent the room asked, the stages that are left of an accepted document are those of writing its pieces
+written-stages : (list doc : List ℕ) (hs : List Header) (p : Plan) → AcceptedList list hs → (h : HasPlan hs doc p) (l : Lent) → workWords ≤ l .work₁ → workWords ≤ l .work₂
+    → written list doc (roomOf l) ≡ writingStages (documentPieces hs p) (length (l .out))
+unfolding written textStages
+written-stages list doc hs p a h l w₁ w₂ =
+    guarded-good (canonServes (roomOf l)) list doc (textStages list doc (length (l .out))) (rw (le-leb workWords (l .work₁) w₁, le-leb workWords (l .work₂) w₂)) (a .short) (h .accepted .short)
+    ∙ ap (λ (s : Stage Checked). andThen s (λ c. writingStages (layoutOf (c .headers) (c .document)) (length (l .out)))) (both-pass list doc hs a (h .tree) (h .accepted))
+    ∙ ap (λ (ps : List Piece). writingStages ps (length (l .out))) (layout-is hs (h .tree) p (h .planned))
+
+writing-good : (ps : List Piece) (out : ℕ) → length (text ps) ≤ maxText → length ps ≤ maxTokens → length (text ps) ≤ out → writingStages ps out ≡ pass (text ps)
+unfolding writingStages
+writing-good ps out b t o = rw (le-leb (length (text ps)) maxText b, le-leb (length ps) maxTokens t, le-leb (length (text ps)) out o)
+
+-- and what passes them keeps the limits and fits the output
+writing-kept : (hs : List Header) (p : Plan) (out : ℕ) (bytes : List ℕ) → writingStages (documentPieces hs p) out ≡ pass bytes → Keeps hs p × (length (canonical hs p) ≤ out)
+unfolding writingStages canonical
+writing-kept hs p out bytes e = go (leb (length (canonical hs p)) maxText) (leb (length (documentPieces hs p)) maxTokens) (leb (length (canonical hs p)) out) refl refl refl e
+  where
+    go : (a b c : Bool) → leb (length (canonical hs p)) maxText ≡ a → leb (length (documentPieces hs p)) maxTokens ≡ b → leb (length (canonical hs p)) out ≡ c
+        → guard (a && b) (answer 25 0 0 0) (guard c (answer 26 0 0 (length (canonical hs p))) (pass (canonical hs p))) ≡ pass bytes → Keeps hs p × (length (canonical hs p) ≤ out)
+    go false b c x y z e = let q : _≡_ {A = ℕ} 0 1 = cc in absurd (omega arith)
+    go true false c x y z e = let q : _≡_ {A = ℕ} 0 1 = cc in absurd (omega arith)
+    go true true false x y z e = let q : _≡_ {A = ℕ} 0 1 = cc in absurd (omega arith)
+    go true true true x y z e =
+        (record { bytes = leb-true (length (canonical hs p)) maxText x; tokens = leb-true (length (documentPieces hs p)) maxTokens y }, leb-true (length (canonical hs p)) out z)
+
 module _ (list : List ℕ) (hs : List Header) (fixed : AcceptedList list hs) where
   -- ---- demand 3
 
   module _ (doc : List ℕ) (p : Plan) (h : HasPlan hs doc p) (k : Keeps hs p) where
-    written-is : (l : Lent) → Serves l (canonical hs p) → written list doc (l .work₁) (l .work₂) (length (l .out)) ≡ pass (canonical hs p)
-    unfolding written writingStages layoutOf canonical
+    written-is : (l : Lent) → Serves l (canonical hs p) → written list doc (roomOf l) ≡ pass (canonical hs p)
+    unfolding canonical
     written-is l s =
-        rw (
-          le-leb workWords (l .work₁) (s .first),
-          le-leb workWords (l .work₂) (s .second),
-          le-leb (length list) maxText (fixed .short),
-          le-leb (length doc) maxText (h .accepted .short),
-          list-passes list hs fixed,
-          document-passes hs doc (h .tree) (h .accepted),
-          h .planned,
-          le-leb (length (text (documentPieces hs p))) maxText (k .bytes),
-          le-leb (length (documentPieces hs p)) maxTokens (k .tokens),
-          le-leb (length (text (documentPieces hs p))) (length (l .out)) (s .holds),
-        )
+        written-stages list doc hs p fixed h l (s .first) (s .second)
+        ∙ writing-good (documentPieces hs p) (length (l .out)) (k .bytes) (k .tokens) (s .holds)
 
     -- canon writes the canonical text, from the first byte of the output on, and answers 0, 0, 0 and its length
     pub canon-answers : (l : Lent) → Serves l (canonical hs p) → numbers list doc l ≡ answer 0 0 0 (length (canonical hs p))
@@ -117,60 +142,30 @@ module _ (list : List ℕ) (hs : List Header) (fixed : AcceptedList list hs) whe
             one-plan hs (canonical hs q) p q (rw c at (again-accepted doc₁ p h k)) (again-accepted doc₂ q g j),
       )
 
--- ---- demands 1 and 2 of canon
+-- ---- acceptance and refusals of canon
 
--- what check refuses, lent tables of the room that it asks, canon refuses with the same four numbers
-pub refuses-as-check : (list doc : List ℕ) (l : Lent) (calls wires : ℕ) → callWords ≤ calls → wireWords ≤ wires → (checkAnswer list doc (l .work₁) (l .work₂) calls wires .code ≡ 0 → ⊥)
-    → numbers list doc l ≡ checkAnswer list doc (l .work₁) (l .work₂) calls wires
-unfolding numbers canonAnswer written checkAnswer checked
-refuses-as-check list doc l calls wires c w n =
-    rw (le-leb callWords calls c, le-leb wireWords wires w) (go (leb workWords (l .work₁)) (leb workWords (l .work₂)) (leb (length list) maxText) (leb (length doc) maxText) (rw (le-leb callWords calls c, le-leb wireWords wires w) at n))
+-- lent the room asked, what check refuses canon refuses with the same four numbers
+pub refuses-as-check : (list doc : List ℕ) (l : Lent) (k : CheckRoom) → canonServes (roomOf l) ≡ true → checkServes k ≡ true → (checkAnswer list doc k .code ≡ Code.accepted → ⊥)
+    → numbers list doc l ≡ checkAnswer list doc k
+unfolding numbers canonAnswer written textStages checkAnswer checked
+refuses-as-check list doc l k s t n = rw (s, t) (go (leb (length list) maxText) (leb (length doc) maxText) (bothStages list doc) (rw t at n))
   where
-    writes : Stage (List Header) → Stage (List ℕ)
-    writes s = andThen s (λ hs. andThen (documentStages hs doc) (λ d. writingStages (layoutOf hs d) (length (l .out))))
-
-    checks : Stage (List Header) → Stage Checked
-    checks s = andThen s (λ hs. andThen (documentStages hs doc) (λ d. pass (record { headers = hs; document = d })))
-
-    calls-of : Stage Checked → Answer
-    calls-of s = stageAnswer s (λ k. length (k .document .calls))
-
-    second : (hs : List Header) (x : Stage Document)
-        → (calls-of (andThen x (λ d. pass (record { headers = hs; document = d }))) .code ≡ 0 → ⊥)
-        → stageAnswer (andThen x (λ d. writingStages (layoutOf hs d) (length (l .out)))) length ≡ calls-of (andThen x (λ d. pass (record { headers = hs; document = d })))
-    second hs (pass d) n = absurd (n refl)
-    second hs (stop r) n = refl
-
-    stages : (x : Stage (List Header)) → (calls-of (checks x) .code ≡ 0 → ⊥) → stageAnswer (writes x) length ≡ calls-of (checks x)
-    stages (pass hs) n = second hs (documentStages hs doc) n
-    stages (stop r) n = refl
-
-    go : (a b c d : Bool) → (calls-of (roomy (a && (b && (true && true))) (guard c (answer 2 1 maxText 0) (guard d (answer 2 2 maxText 0) (checks (listStages list))))) .code ≡ 0 → ⊥)
-        → stageAnswer (roomy (a && b) (guard c (answer 2 1 maxText 0) (guard d (answer 2 2 maxText 0) (writes (listStages list))))) length
-        ≡ calls-of (roomy (a && (b && (true && true))) (guard c (answer 2 1 maxText 0) (guard d (answer 2 2 maxText 0) (checks (listStages list)))))
-    go false b c d n = refl
-    go true false c d n = refl
-    go true true false d n = refl
-    go true true true false n = refl
-    go true true true true n = stages (listStages list) n
+    go : (a b : Bool) (x : Stage Checked) → (stageAnswer (guard a (answer 2 1 maxText 0) (guard b (answer 2 2 maxText 0) x)) callCount .code ≡ 0 → ⊥)
+        → stageAnswer (guard a (answer 2 1 maxText 0) (guard b (answer 2 2 maxText 0) (andThen x (λ c. writingStages (layoutOf (c .headers) (c .document)) (length (l .out)))))) length
+        ≡ stageAnswer (guard a (answer 2 1 maxText 0) (guard b (answer 2 2 maxText 0) x)) callCount
+    go false b x n = refl
+    go true false x n = refl
+    go true true (pass c) n = absurd (n refl)
+    go true true (stop r) n = refl
 
 -- What check accepts, canon refuses only where the canonical text does not keep the limits, with 25, or else where the output is shorter
 -- than it, with 26 and its length.
 module _ (list doc : List ℕ) (hs : List Header) (p : Plan) (fixed : AcceptedList list hs) (h : HasPlan hs doc p) (l : Lent) (w₁ : workWords ≤ l .work₁) (w₂ : workWords ≤ l .work₂) where
   numbers-are : numbers list doc l ≡ stageAnswer (writingStages (documentPieces hs p) (length (l .out))) length
-  unfolding numbers canonAnswer written layoutOf
-  numbers-are =
-      rw (
-        le-leb workWords (l .work₁) w₁,
-        le-leb workWords (l .work₂) w₂,
-        le-leb (length list) maxText (fixed .short),
-        le-leb (length doc) maxText (h .accepted .short),
-        list-passes list hs fixed,
-        document-passes hs doc (h .tree) (h .accepted),
-        h .planned,
-      )
+  unfolding numbers canonAnswer
+  numbers-are = ap (λ (s : Stage (List ℕ)). stageAnswer s length) (written-stages list doc hs p fixed h l w₁ w₂)
 
-  pub over-the-limits : (Keeps hs p → ⊥) → numbers list doc l ≡ answer 25 0 0 0
+  pub over-the-limits : (Keeps hs p → ⊥) → numbers list doc l ≡ answer Writing.overLimits 0 0 0
   unfolding writingStages canonical
   over-the-limits n = numbers-are ∙ go (leb (length (text (documentPieces hs p))) maxText) (leb (length (documentPieces hs p)) maxTokens) refl refl
     where
@@ -180,7 +175,7 @@ module _ (list doc : List ℕ) (hs : List Header) (p : Plan) (fixed : AcceptedLi
       go true false e f = refl
       go true true e f = absurd (n (record { bytes = leb-true (length (text (documentPieces hs p))) maxText e; tokens = leb-true (length (documentPieces hs p)) maxTokens f }))
 
-  pub over-the-output : Keeps hs p → length (l .out) < length (canonical hs p) → numbers list doc l ≡ answer 26 0 0 (length (canonical hs p))
+  pub over-the-output : Keeps hs p → length (l .out) < length (canonical hs p) → numbers list doc l ≡ answer Writing.shortOutput 0 0 (length (canonical hs p))
   unfolding writingStages canonical
   over-the-output k o =
       numbers-are
@@ -190,10 +185,30 @@ module _ (list doc : List ℕ) (hs : List Header) (p : Plan) (fixed : AcceptedLi
         lt-leb (length (text (documentPieces hs p))) (length (l .out)) o,
       )
 
+-- Code 0 is answered only to an accepted document under an accepted list whose canonical text keeps the limits and fits the output.
+pub canon-accepted : (list doc : List ℕ) (l : Lent) → numbers list doc l .code ≡ Code.accepted
+    → (hs : List Header) × ((p : Plan) × (AcceptedList list hs × (HasPlan hs doc p × (Keeps hs p × (length (canonical hs p) ≤ length (l .out))))))
+unfolding numbers canonAnswer written textStages has-plan
+canon-accepted list doc l e =
+    let t = textStages list doc (length (l .out)) in
+    let x = answer-passed (guarded (canonServes (roomOf l)) list doc t) length (guarded-codes (canonServes (roomOf l)) list doc t (text-codes list doc (length (l .out)))) e in
+    let y = guarded-passed (canonServes (roomOf l)) list doc t (x .0) (x .1) in
+    go (bothStages list doc) refl (y .1 .0) (y .1 .1 .0) (x .0) (y .1 .1 .1)
+  where
+    go : (s : Stage Checked) → bothStages list doc ≡ s → length list ≤ maxText → length doc ≤ maxText → (bytes : List ℕ)
+        → andThen s (λ c. writingStages (layoutOf (c .headers) (c .document)) (length (l .out))) ≡ pass bytes
+        → (hs : List Header) × ((p : Plan) × (AcceptedList list hs × (HasPlan hs doc p × (Keeps hs p × (length (canonical hs p) ≤ length (l .out))))))
+    go (stop r) q a b bytes k = let z : _≡_ {A = ℕ} 0 1 = cc in absurd (omega arith)
+    go (pass c) q a b bytes k =
+        let v = both-passed list doc c a b q in
+        let w = has-plan list doc (c .headers) (c .document) (v .0) (v .1) in
+        let u = writing-kept (c .headers) (w .0) (length (l .out)) bytes (sym (ap (λ (ps : List Piece). writingStages ps (length (l .out))) (layout-is (c .headers) (c .document) (w .0) (w .1 .planned))) ∙ k) in
+        (c .headers, (w .0, (v .0, (w .1, u))))
+
 -- a refusal leaves the output as it was
-pub refusal-keeps : (list doc : List ℕ) (l : Lent) → (numbers list doc l .code ≡ 0 → ⊥) → output list doc l ≡ l .out
+pub refusal-keeps : (list doc : List ℕ) (l : Lent) → (numbers list doc l .code ≡ Code.accepted → ⊥) → output list doc l ≡ l .out
 unfolding numbers canonAnswer output outputAfter
-refusal-keeps list doc l n = go (written list doc (l .work₁) (l .work₂) (length (l .out))) n
+refusal-keeps list doc l n = go (written list doc (roomOf l)) n
   where
     go : (s : Stage (List ℕ)) → (stageAnswer s length .code ≡ 0 → ⊥) → tableAfter s (λ (bytes : List ℕ). bytes) (l .out) ≡ l .out
     go (pass bytes) n = absurd (n refl)

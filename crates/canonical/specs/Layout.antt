@@ -1,13 +1,14 @@
 -- The layout of canonical text, as pieces, from a plan and the operation list alone. Every definition gives the pieces of its part, and
 -- the pieces r after them.
 use Prim.Native.Nat.{ℕ}
-use mathlib.Core.Bool.{cond}
 use mathlib.Core.List.{List, [], _∷_}
+use mathlib.Core.Option.{Option, some}
+use mathlib.Core.Option.{none as nothing}
 use Rattle.lexis.specs.Ascii.{ascii}
 use Rattle.lexis.specs.Kind as Kind
-use Rattle.lexis.specs.Words.{sameBytes}
 use Rattle.syntax.specs.Tree.{Param, Header}
 use Rattle.rules.specs.Reading.{Val, Vals, vName, vNumber, vExtent, vString, vLogical, vArray, vTuple, no-val, a-val}
+use Rattle.rules.specs.DocumentRules.{operationOf}
 use Rattle.canonical.specs.Plan.{PlanCall, Plan}
 use Rattle.canonical.specs.Spelling.{decimal, spellNumber, spellString, spellTruth}
 use Rattle.canonical.specs.Pieces.{Piece, text}
@@ -90,10 +91,14 @@ argumentsPieces [] vs r = r
 argumentsPieces (p ∷ ps) [] r = r
 argumentsPieces (p ∷ ps) (v ∷ vs) r = argumentPieces p v (moreArgumentsPieces ps vs r)
 
+-- the parameters of an operation that was looked up
+abbrev pub paramsIn : Option Header → List Param
+paramsIn nothing = []
+paramsIn (some h) = h .params
+
 -- the parameters of the operation of a name
-unfoldable pub paramsOf : List Header → List ℕ → List Param
-paramsOf [] w = []
-paramsOf (h ∷ hs) w = let r = paramsOf hs w in cond (sameBytes (h .name .bytes) w) (h .params) r
+abbrev pub paramsOf : List Header → List ℕ → List Param
+paramsOf hs w = paramsIn (operationOf hs w)
 
 -- a call, with its semicolon and a line feed
 unfoldable pub callPieces : List Header → PlanCall → List Piece → List Piece

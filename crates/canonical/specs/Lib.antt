@@ -6,6 +6,7 @@ pub mod Layout
 pub mod Code
 pub mod Answer
 pub mod Demand
+pub mod CodeTable
 pub mod Program
 -- What only the contracts of the code cite.
 pub mod Writing

@@ -13,7 +13,7 @@ ghost use Rattle.lexis.specs.Ascii.{ascii};
 ghost use Rattle.lexis.specs.Kind as Kind;
 ghost use Rattle.lexis.specs.Lexer.{Token};
 ghost use Rattle.lexis.specs.Sizes.{maxBrackets};
-ghost use Rattle.syntax.specs.Symbol.{namePiece as nameSymbol, rightRound};
+ghost use Rattle.syntax.specs.Symbol.{aName as nameSymbol, rightRound};
 ghost use Rattle.syntax.specs.Tree.{Header, Document};
 ghost use Rattle.syntax.specs.Parser.{expect, row, plain, commas, parseDocument};
 ghost use Rattle.syntax.specs.Parser.Parse.{ok};
@@ -85,10 +85,10 @@ pub fn put_document(
 ) -> Place
     requires { ⌜ Holds (now ltext) (now ltable) ln ⌝ }
     requires { ⌜ Ranged (now ltext) (now ltable) ln ⌝ }
-    requires { ⌜ NamePlaces ln (now namesPieces) ⌝ }
+    requires { ⌜ NamePlaces ln (now names) ⌝ }
     requires { ⌜ Holds (now dtext) (now dtable) dn ⌝ }
     requires { ⌜ Ranged (now dtext) (now dtable) dn ⌝ }
-    ensures { λ r. ⌜ ((hs : List Header) (d : Document) (p : Plan) → Heads (now (ltext .entry)) (now (ltable .entry)) ln maxBrackets (now (namesPieces .entry)) hs → parseDocument (toks (now (dtext .entry)) (now (dtable .entry)) dn 0) ≡ ok d [] →
+    ensures { λ r. ⌜ ((hs : List Header) (d : Document) (p : Plan) → Heads (now (ltext .entry)) (now (ltable .entry)) ln maxBrackets (now (names .entry)) hs → parseDocument (toks (now (dtext .entry)) (now (dtable .entry)) dn 0) ≡ ok d [] →
         documentFaults hs d ≡ [] → planOf hs d ≡ some p → PutsAll (documentPieces hs p) (now (out .entry)) (now (out .exit)) r) ⌝ }
 {
     let graph = graph_at(dtext, dtable, dn);

@@ -27,8 +27,8 @@ use Rattle.rules.specs.Best.{meant}
 use Rattle.rules.specs.Names.{repeats, startOf}
 use Rattle.rules.specs.Reading.{fits, allTensor}
 use Rattle.rules.specs.ListRules.{paramNames}
-use Rattle.rules.specs.Binding.{leading, slots, takesPlace, misplaced, misnamed, misfit, misfits, missing}
-use Rattle.rules.specs.Arguments.{maskOf, without, lacked, isRequired, bound, leads, tallyFaults, Indexed, seek, Stands, Declared, GoesOn, Tallies}
+use Rattle.rules.specs.Binding.{lacked, leading, slots, takesPlace, misplaced, misnamed, misfit, misfits, missing}
+use Rattle.rules.specs.Arguments.{maskOf, without, isRequired, bound, leads, tallyFaults, Indexed, seek, Stands, Declared, GoesOn, Tallies}
 use Rattle.rules.specs.Arguments.Stands.{there, nowhere}
 use Rattle.rules.specs.Arguments.GoesOn.{more, last}
 use Rattle.rules.proofs.Labels.{leads-named, leads-same}

@@ -17,10 +17,10 @@ use Rattle.syntax.specs.Table.{startAt, tokenAt, toks}
 use Rattle.rules.specs.Fault.{Fault, fault, unless, earlier, first}
 use Rattle.rules.specs.Names.{startOf}
 use Rattle.rules.specs.Reading.{fits, resultType}
-use Rattle.rules.specs.DocumentRules.{find, byOperation, undeclared, argumentFaults, unmatched}
+use Rattle.rules.specs.DocumentRules.{find, byOperation, undeclared, argumentFaults, unmatched, boundAt, leftFaults}
 use Rattle.rules.specs.Walks.{when}
 use Rattle.rules.specs.Calls.{Calls, CallAt}
-use Rattle.rules.specs.Operations.{operationFaults, boundAt, boundFaults, leftFaults}
+use Rattle.rules.specs.Operations.{operationFaults}
 use Rattle.rules.specs.declared.calls.Places.{Places}
 use Rattle.rules.proofs.First.{first-append}
 use Rattle.rules.proofs.CallParses.{then-ok}
@@ -32,12 +32,12 @@ use Rattle.rules.proofs.Bests.{walk-start, walk-on, walk-end}
 -- an undeclared operation: 15 alone
 pub unknown : (hs : List Header) (c : Call) → find hs (c .op) ≡ nothing → first (operationFaults hs c) ≡ some (fault 15 (c .op .start))
 unfolding operationFaults undeclared argumentFaults unmatched first
-unknown hs c e = ap (λ (o : Option Header). first (byOperation o (λ h. []) (fault 15 (c .op .start) ∷ []) ++ (byOperation o (λ h. boundFaults h c) [] ++ byOperation o (λ h. leftFaults h c) []))) e
+unknown hs c e = ap (λ (o : Option Header). first (byOperation o (λ h. []) (fault 15 (c .op .start) ∷ []) ++ (byOperation o (λ h. boundAt (c .op .start) h c) [] ++ byOperation o (λ h. leftFaults h c) []))) e
 
 -- a declared one: those of its header
-pub known : (hs : List Header) (c : Call) (h : Header) → find hs (c .op) ≡ some h → first (operationFaults hs c) ≡ first (boundFaults h c ++ leftFaults h c)
+pub known : (hs : List Header) (c : Call) (h : Header) → find hs (c .op) ≡ some h → first (operationFaults hs c) ≡ first (boundAt (c .op .start) h c ++ leftFaults h c)
 unfolding operationFaults undeclared argumentFaults unmatched
-known hs c h e = ap (λ (o : Option Header). first (byOperation o (λ h. []) (fault 15 (c .op .start) ∷ []) ++ (byOperation o (λ h. boundFaults h c) [] ++ byOperation o (λ h. leftFaults h c) []))) e
+known hs c h e = ap (λ (o : Option Header). first (byOperation o (λ h. []) (fault 15 (c .op .start) ∷ []) ++ (byOperation o (λ h. boundAt (c .op .start) h c) [] ++ byOperation o (λ h. leftFaults h c) []))) e
 
 -- the left side of a call
 pub record Left (b : ℕ) (ts : List Token) (v : Value) : Type 0 where
@@ -70,11 +70,11 @@ module _ (text table : List ℕ) (n at : ℕ) (p : Places) (c : Call) (us : List
   begun = ap (λ (t : Token). t .start) (w .first)
 
   pub declared-sum : (h : Header) {x y z : Option Fault} {m : Bool} {place s : ℕ} → x ≡ first (boundAt place h c) → place ≡ startAt table (p .equal + 1) → m ≡ fits (c .left) (resultType (h .results))
-      → y ≡ first (when (not m) (fault 20 s)) → s ≡ startAt table at → z ≡ earlier x y → z ≡ first (boundFaults h c ++ leftFaults h c)
+      → y ≡ first (when (not m) (fault 20 s)) → s ≡ startAt table at → z ≡ earlier x y → z ≡ first (boundAt (c .op .start) h c ++ leftFaults h c)
   declared-sum h {m = m} {s = s} e o f g d k =
       k
       ∙ ap₂ earlier (e ∙ ap (λ (j : ℕ). first (boundAt j h c)) (o ∙ started)) (g ∙ ap first (when-not m (fault 20 s)) ∙ ap₂ (λ (b : Bool) (j : ℕ). first (unless b (fault 20 j))) f (d ∙ begun))
-      ∙ sym (first-append (boundFaults h c) (leftFaults h c))
+      ∙ sym (first-append (boundAt (c .op .start) h c) (leftFaults h c))
 
 -- ---- all calls
 

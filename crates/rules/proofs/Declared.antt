@@ -21,9 +21,9 @@ use Rattle.syntax.proofs.Table.{toks-length, toks-rest}
 use Rattle.syntax.proofs.Shrinks.{param-shrinks}
 use Rattle.rules.specs.Fault.{first}
 use Rattle.rules.specs.Reading.{isSome}
-use Rattle.rules.specs.DocumentRules.{find}
+use Rattle.rules.specs.DocumentRules.{operationOf, find}
 use Rattle.rules.specs.Tables.{indexOf}
-use Rattle.rules.specs.Lists.{onFrom, headerFaults, Heads, no-head, a-head, NamePlaces, lookupFrom, entries}
+use Rattle.rules.specs.Lists.{headerFaults, Heads, no-head, a-head, NamePlaces, lookupFrom, entries}
 use Rattle.rules.specs.Found.{found}
 use Rattle.rules.specs.Operations.{Opened}
 use Rattle.rules.specs.declared.operation.Lookup.{Lookup}
@@ -31,6 +31,7 @@ use Rattle.rules.specs.declared.operation.Lookup.the-variants.{At, Missi
 use Rattle.rules.proofs.First.{first-append}
 use Rattle.rules.proofs.HeaderParses.{IsHeader, header-ok}
 use Rattle.rules.proofs.HeaderLayout.{stops-at, run-from, row-run, param-lays, arrow-not}
+use Rattle.rules.specs.Scans.{fromSymbol}
 use Rattle.rules.proofs.HeaderScans.{from-over}
 use Rattle.rules.proofs.DocumentFaults.{neither}
 
@@ -65,11 +66,11 @@ module _ (text table : List ℕ) (n b q : ℕ) (positive : 0 < q) {h : Header} {
   params-read = ap (row plain (commas rightRound) (param b)) inner ∙ parts .the-params
 
   -- its results, two places behind the arrow
-  pub results-read : (a : ℕ) → toks text table n a ≡ onFrom arrow (toks text table n (q + 1)) → row plain (commas rightRound) (result b) (toks text table n (a + 2)) ≡ ok (h .results) us
+  pub results-read : (a : ℕ) → toks text table n a ≡ fromSymbol arrow (toks text table n (q + 1)) → row plain (commas rightRound) (result b) (toks text table n (a + 2)) ≡ ok (h .results) us
   results-read a e =
       let x : toks text table n a ≡ parts .sign ∷ parts .second ∷ parts .given =
       e
-      ∙ ap (onFrom arrow) bracket
+      ∙ ap (fromSymbol arrow) bracket
       ∙ from-over arrow (parts .opening) (parts .listed) (ne-eqb (symOf (parts .opening)) arrow (λ z. other (sym (parts .opens) ∙ z)))
       ∙ run-from arrow (λ z. omega arith) arrow-not (row-run (param b) (λ (p : Param). p .name) (param-shrinks b) (param-lays b) (h .params) (parts .listed) (parts .the-params))
       ∙ stops-at arrow (parts .sign) (parts .second ∷ parts .given) (parts .an-arrow) .after in
@@ -124,7 +125,7 @@ module _ (text table : List ℕ) (n b : ℕ) where
     pub own : first (flatMap headerFaults hs) ≡ nothing → first (headerFaults head) ≡ nothing
 
   head-there : {qs : List ℕ} {hs : List Header} (t : Token) → Heads text table n b qs hs → isSome (find hs t) ≡ true → HeadAt (getD qs (indexOf hs t) 0) hs t
-  unfolding find indexOf flatMap
+  unfolding operationOf indexOf flatMap
   head-there t no-head e = absurd (false≢true e)
   head-there t (a-head {q = q} {h = h} {us = us} {qs = qs} {hs = hs} r d w) e = go (sameBytes (h .name .bytes) (t .bytes)) refl e (head-there t w)
     where

@@ -17,7 +17,7 @@ use Rattle.syntax.specs.Parser.{header}
 use Rattle.syntax.specs.Table.{startAt, tokenAt}
 use Rattle.rules.specs.Names.{isAmong}
 use Rattle.rules.specs.Reading.{isSome}
-use Rattle.rules.specs.DocumentRules.{find}
+use Rattle.rules.specs.DocumentRules.{operationOf, find}
 use Rattle.rules.specs.Tables.{indexOf}
 use Rattle.rules.specs.Lists.{Heads, no-head, a-head, NamePlaces, entries, lookupFrom}
 use Rattle.rules.specs.Found.{found}
@@ -70,7 +70,7 @@ module _ (text table words : List ℕ) (t : Token) where
 
 -- what is found, by the trees
 lookup-found : (k : ℕ) (hs : List Header) (t : Token) → lookupFrom k (map (λ (h : Header). h .name) hs) t ≡ cond (isSome (find hs t)) (At (k + indexOf hs t)) Missing
-unfolding lookupFrom find indexOf
+unfolding lookupFrom operationOf indexOf
 lookup-found k [] t = refl
 lookup-found k (g ∷ hs) t = go (sameBytes (g .name .bytes) (t .bytes)) (lookup-found (suc k) hs t)
   where

@@ -14,11 +14,12 @@ use Rattle.syntax.specs.Parser.Row.{commas}
 use Rattle.syntax.proofs.Row.{Shrinks}
 use Rattle.syntax.proofs.Shrinks.{param-shrinks, result-shrinks}
 use Rattle.rules.specs.Names.{those}
-use Rattle.rules.specs.Lists.{isA, upto, onFrom, Plain, ItemRun, stop, pass, item, endsHeader}
+use Rattle.rules.specs.Lists.{isA, upto, Plain, ItemRun, stop, pass, item, endsHeader}
 use Rattle.rules.proofs.Passes.{Passes, plain-of, passes-trans, over-is, type-over, default-over}
 use Rattle.rules.proofs.Passes.Passes.{stop as no-more, pass as one-more}
 use Rattle.rules.proofs.HeaderParses.{Rowed, row-ok, param-ok, result-ok, header-ok}
 use Rattle.rules.proofs.HeaderParses.Rowed.{last, next}
+use Rattle.rules.specs.Scans.{fromSymbol}
 use Rattle.rules.proofs.HeaderScans.{upto-at, upto-over, from-at, from-over}
 
 -- ---- an item is its name and plain tokens
@@ -94,18 +95,18 @@ name-out t ts h = simp (ne-eqb (symOf t) aName h)
 -- a scan for s stops at these tokens
 pub record Stops (s : ℕ) (us : List Token) : Type 0 where
   pub before : upto s us ≡ []
-  pub after : onFrom s us ≡ us
+  pub after : fromSymbol s us ≡ us
 
 pub stops-at : (s : ℕ) (t : Token) (us : List Token) → symOf t ≡ s → Stops s (t ∷ us)
 stops-at s t us h = let e = eq-eqb (symOf t) s h in record { before = upto-at s t us e; after = from-at s t us e }
 
 pub stops-end : (us : List Token) → endsHeader us → Stops fragment us
-unfolding upto onFrom
+unfolding upto fromSymbol
 stops-end [] h = record { before = refl; after = refl }
 stops-end (t ∷ us) h = stops-at fragment t us h
 
 module _ {A : Type 0} {read : Reader A} {nameOf : A → Token} (s : ℕ) (other : s ≡ aName → ⊥) (plain-not : (t : Token) → Plain t → symOf t ≡ s → ⊥) where
-  pub run-from : {ts us : List Token} {xs : List A} → ItemRun read nameOf ts xs us → onFrom s ts ≡ onFrom s us
+  pub run-from : {ts us : List Token} {xs : List A} → ItemRun read nameOf ts xs us → fromSymbol s ts ≡ fromSymbol s us
   run-from stop = refl
   run-from (pass {t = t} {ts = ts} h r) = from-over s t ts (ne-eqb (symOf t) s (plain-not t h)) ∙ run-from r
   run-from (item {t = t} {ts = ts} h n d r) = from-over s t ts (ne-eqb (symOf t) s (λ z. other (sym z ∙ h))) ∙ run-from r

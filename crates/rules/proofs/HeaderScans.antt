@@ -1,5 +1,5 @@
 -- Flat scans over a table: the tokens up to and from a terminal, the names among tokens and their repeats, one token at a time.
--- The tokens between two places first, then `upto` and `onFrom`, then `those`, `isAmong`, `repeatsAfter` and `first` over `++`.
+-- The tokens between two places first, then `upto` and `fromSymbol`, then `those`, `isAmong`, `repeatsAfter` and `first` over `++`.
 use mathlib.Core.Path.{_≡_, refl, sym, ap, _∙_}
 use mathlib.Core.Bool.{Bool, true, false, cond, _&&_, _||_}
 use mathlib.Core.List.{List, [], _∷_, _++_, map, append-assoc, append-nil}
@@ -18,7 +18,8 @@ use Rattle.syntax.proofs.Table.{toks-none, toks-more}
 use Rattle.rules.specs.Fault.{Fault, fault, faults, starts, earlier, first}
 use Rattle.rules.specs.ListRules.{over}
 use Rattle.rules.specs.Names.{those, isAmong, repeatsAfter, repeats}
-use Rattle.rules.specs.Lists.{isA, upto, onFrom}
+use Rattle.rules.specs.Lists.{isA, upto}
+use Rattle.rules.specs.Scans.{fromSymbol}
 use Rattle.rules.proofs.First.{first-append}
 
 module _ (text table : List ℕ) where
@@ -57,21 +58,21 @@ pub upto-over : (s : ℕ) (t : Token) (ts : List Token) → isA s t ≡ false �
 unfolding upto
 upto-over s t ts h = simp h
 
-pub from-at : (s : ℕ) (t : Token) (ts : List Token) → isA s t ≡ true → onFrom s (t ∷ ts) ≡ t ∷ ts
-unfolding onFrom
+pub from-at : (s : ℕ) (t : Token) (ts : List Token) → isA s t ≡ true → fromSymbol s (t ∷ ts) ≡ t ∷ ts
+unfolding fromSymbol
 from-at s t ts h = simp h
 
-pub from-over : (s : ℕ) (t : Token) (ts : List Token) → isA s t ≡ false → onFrom s (t ∷ ts) ≡ onFrom s ts
-unfolding onFrom
+pub from-over : (s : ℕ) (t : Token) (ts : List Token) → isA s t ≡ false → fromSymbol s (t ∷ ts) ≡ fromSymbol s ts
+unfolding fromSymbol
 from-over s t ts h = simp h
 
 -- what a scan stops at
-pub from-is : (s : ℕ) (ts : List Token) (t : Token) (us : List Token) → onFrom s ts ≡ t ∷ us → isA s t ≡ true
-unfolding onFrom
+pub from-is : (s : ℕ) (ts : List Token) (t : Token) (us : List Token) → fromSymbol s ts ≡ t ∷ us → isA s t ≡ true
+unfolding fromSymbol
 from-is s [] t us h = let z : _≡_ {A = ℕ} 0 1 = cc in absurd (omega arith)
 from-is s (x ∷ ts) t us h = go (isA s x) refl h (from-is s ts t us)
   where
-    go : (b : Bool) → isA s x ≡ b → cond b (x ∷ ts) (onFrom s ts) ≡ t ∷ us → (onFrom s ts ≡ t ∷ us → isA s t ≡ true) → isA s t ≡ true
+    go : (b : Bool) → isA s x ≡ b → cond b (x ∷ ts) (fromSymbol s ts) ≡ t ∷ us → (fromSymbol s ts ≡ t ∷ us → isA s t ≡ true) → isA s t ≡ true
     go true p e r = let q : x ≡ t = cc in rw q at p
     go false p e r = r e
 
@@ -81,7 +82,7 @@ module _ (text table : List ℕ) (n at s : ℕ) where
     pub low : at ≤ i
     pub high : i ≤ n
     pub passed : upto s (toks text table n at) ≡ toks text table i at ++ upto s (toks text table n i)
-    pub ahead : onFrom s (toks text table n at) ≡ onFrom s (toks text table n i)
+    pub ahead : fromSymbol s (toks text table n at) ≡ fromSymbol s (toks text table n i)
 
   pub scan-begin : at ≤ n → Scanned at
   scan-begin h = record { low = omega arith; high = h; passed = rw (toks-none text table at at (omega arith)); ahead = refl }
@@ -96,13 +97,13 @@ module _ (text table : List ℕ) (n at s : ℕ) where
         ∙ ap (λ (x : List Token). toks text table i at ++ x) (upto-over s (tokenAt text table i) (toks text table n (i + 1)) e)
         ∙ sym (append-assoc (toks text table i at) (tokenAt text table i ∷ []) (upto s (toks text table n (i + 1))))
         ∙ ap (λ (x : List Token). x ++ upto s (toks text table n (i + 1))) (sym (toks-last text table at i (c .low)));
-    ahead = c .ahead ∙ ap (onFrom s) (toks-more text table n i h) ∙ from-over s (tokenAt text table i) (toks text table n (i + 1)) e;
+    ahead = c .ahead ∙ ap (fromSymbol s) (toks-more text table n i h) ∙ from-over s (tokenAt text table i) (toks text table n (i + 1)) e;
   }
 
   -- at the terminal, or at the end
   pub record Stopped (i : ℕ) : Type 0 where
     pub before : toks text table i at ≡ upto s (toks text table n at)
-    pub after : toks text table n i ≡ onFrom s (toks text table n at)
+    pub after : toks text table n i ≡ fromSymbol s (toks text table n at)
 
   pub scan-at : (i : ℕ) → Scanned i → i < n → isA s (tokenAt text table i) ≡ true → Stopped i
   scan-at i c h e = record {
@@ -112,14 +113,14 @@ module _ (text table : List ℕ) (n at s : ℕ) where
         ∙ ap (λ (x : List Token). toks text table i at ++ upto s x) (toks-more text table n i h)
         ∙ ap (λ (x : List Token). toks text table i at ++ x) (upto-at s (tokenAt text table i) (toks text table n (i + 1)) e)
         ∙ append-nil (toks text table i at));
-    after = toks-more text table n i h ∙ sym (c .ahead ∙ ap (onFrom s) (toks-more text table n i h) ∙ from-at s (tokenAt text table i) (toks text table n (i + 1)) e);
+    after = toks-more text table n i h ∙ sym (c .ahead ∙ ap (fromSymbol s) (toks-more text table n i h) ∙ from-at s (tokenAt text table i) (toks text table n (i + 1)) e);
   }
 
   pub scan-out : (i : ℕ) → Scanned i → n ≤ i → Stopped i
-  unfolding upto onFrom
+  unfolding upto fromSymbol
   scan-out i c h = record {
     before = sym (c .passed ∙ ap (λ (x : List Token). toks text table i at ++ upto s x) (toks-none text table n i h) ∙ append-nil (toks text table i at));
-    after = toks-none text table n i h ∙ sym (c .ahead ∙ ap (onFrom s) (toks-none text table n i h));
+    after = toks-none text table n i h ∙ sym (c .ahead ∙ ap (fromSymbol s) (toks-none text table n i h));
   }
 
 -- ---- the first token beyond a size
@@ -128,18 +129,18 @@ abbrev pub beyond : ℕ → ℕ → List Token → Option Fault
 beyond s size ts = first (over size (starts (those (isA s) ts)))
 
 -- a scan for s passes over none of the tokens s
-those-from : (s : ℕ) (ts : List Token) → those (isA s) ts ≡ those (isA s) (onFrom s ts)
-unfolding those onFrom
+those-from : (s : ℕ) (ts : List Token) → those (isA s) ts ≡ those (isA s) (fromSymbol s ts)
+unfolding those fromSymbol
 those-from s [] = refl
 those-from s (t ∷ ts) = go (isA s t) refl (those-from s ts)
   where
-    go : (b : Bool) → isA s t ≡ b → those (isA s) ts ≡ those (isA s) (onFrom s ts) → cond b (t ∷ those (isA s) ts) (those (isA s) ts) ≡ those (isA s) (cond b (t ∷ ts) (onFrom s ts))
+    go : (b : Bool) → isA s t ≡ b → those (isA s) ts ≡ those (isA s) (fromSymbol s ts) → cond b (t ∷ those (isA s) ts) (those (isA s) ts) ≡ those (isA s) (cond b (t ∷ ts) (fromSymbol s ts))
     go true e r = simp e
     go false e r = r
 
 module _ (text table : List ℕ) (n s : ℕ) where
   -- a scan from place i has come to place j
-  module _ (i j size : ℕ) (h : toks text table n j ≡ onFrom s (toks text table n i)) where
+  module _ (i j size : ℕ) (h : toks text table n j ≡ fromSymbol s (toks text table n i)) where
     pub beyond-from : beyond s size (toks text table n i) ≡ beyond s size (toks text table n j)
     beyond-from = ap (λ (x : List Token). first (over size (starts x))) (those-from s (toks text table n i)) ∙ ap (beyond s size) (sym h)
 

@@ -15,7 +15,8 @@ use Rattle.syntax.specs.Parser.{header, operations}
 use Rattle.syntax.specs.Parser.Parse.{ok}
 use Rattle.syntax.specs.Table.{tokenAt, toks}
 use Rattle.syntax.proofs.Table.{toks-none, toks-more}
-use Rattle.rules.specs.Lists.{onFrom, tableOf, Heads, no-head, a-head, NamePlaces, HasList, Directory}
+use Rattle.rules.specs.Lists.{tableOf, Heads, no-head, a-head, NamePlaces, HasList, Directory}
+use Rattle.rules.specs.Scans.{fromSymbol}
 use Rattle.rules.proofs.HeaderParses.{IsList, no-header, a-header, list-ok, list-ends}
 use Rattle.rules.proofs.Own.{next-there, name-within}
 
@@ -116,7 +117,7 @@ module _ (text before : List ℕ) (n : ℕ) where
         let x = there (j .list) in
         name-within text (tableOf before) n (g .brackets) (at + 1) (omega arith) (read-there x) (list-ends (x .more))
 
-    pub walk-next : {work : List ℕ} {k r : ℕ} → at + 1 < n → toks text (tableOf before) n r ≡ onFrom fragment (toks text (tableOf before) n (at + 1)) → Walked work at k
+    pub walk-next : {work : List ℕ} {k r : ℕ} → at + 1 < n → toks text (tableOf before) n r ≡ fromSymbol fragment (toks text (tableOf before) n (at + 1)) → Walked work at k
         → Walked (set work (scratchStart + k) (at + 1)) r (k + 1)
     walk-next {work} {k} {r} m e w = record {
       words = w .words ++ ((at + 1) ∷ []);

@@ -22,9 +22,9 @@ use Rattle.rules.specs.Names.{those, isAmong, repeatsAfter, repeats, fir
 use Rattle.rules.specs.Reading.{fits, allTensor, resultType}
 use Rattle.rules.specs.ListRules.{over, paramNames, headerNames, listCounts, listRepeats, badDefault, badDefaults, listFaults}
 use Rattle.rules.specs.Lists as L
-use Rattle.rules.specs.Binding.{leading, labels, byPlace, later, byName, orElse, Slot, slotsFrom, slots, taken, takesPlace, misplacedFrom, misplaced, misnamed, misfit, misfits, isMissing, missingFrom, missing}
+use Rattle.rules.specs.Binding.{leading, labels, byPlace, later, byName, orElse, Slot, slotsFrom, slots, taken, takesPlace, misplacedFrom, misplaced, misnamed, misfit, misfits, isMissing, lacked, missing}
 use Rattle.rules.specs.Wiring.{strangers, again, unwiredAfter, isExternal, misfedBy, misfed, unmade}
-use Rattle.rules.specs.DocumentRules.{badVersion, documentCounts, graphRepeats, find, byOperation, undeclared, argumentFaults, unmatched, documentFaults}
+use Rattle.rules.specs.DocumentRules.{badVersion, documentCounts, graphRepeats, operationOf, find, byOperation, undeclared, argumentFaults, unmatched, documentFaults}
 use Rattle.rules.proofs.First.{first-is, first-append}
 use Rattle.rules.proofs.ListFaults.{countsOf, repeatsOf, misfitsOf}
 use Rattle.rules.proofs.DocumentFaults.{neither, own-clean, few-params}
@@ -216,7 +216,7 @@ all-few hs e = go hs (own-clean hs e)
     go (g ∷ gs) e = let x = neither (first (L.headerFaults g)) (first (flatMap L.headerFaults gs)) (sym (first-append (L.headerFaults g) (flatMap L.headerFaults gs)) ∙ e) in (few-params g (x .0), go gs (x .1))
 
 found-few : (hs : List Header) (t : Token) (h : Header) → Each FewParams hs → find hs t ≡ some h → FewParams h
-unfolding find
+unfolding operationOf
 found-few [] t h g e = let z : _≡_ {A = ℕ} 0 1 = cc in absurd (omega arith)
 found-few (x ∷ xs) t h g e = go (sameBytes (x .name .bytes) (t .bytes)) e (found-few xs t h (g .1))
   where
@@ -305,12 +305,12 @@ module _ (At : ℕ → Type 0) where
       one u nothing k = tt
       one u (some v) k = unless-lined DocumentCode At (fits v u) Code.misfit (startOf v) is-misfit k
 
-  missing-lined : (place k : ℕ) (ss : List Slot) → At place → k + length ss ≤ maxParameters → InDocument (missingFrom place k ss)
-  unfolding missingFrom
+  missing-lined : (place k : ℕ) (ss : List Slot) → At place → k + length ss ≤ maxParameters → InDocument (lacked place k (map isMissing ss))
+  unfolding lacked
   missing-lined place k [] g l = tt
   missing-lined place k (s ∷ ss) g l = go (isMissing s) (missing-lined place (suc k) ss g (omega (arith, l)))
     where
-      go : (b : Bool) → InDocument (missingFrom place (suc k) ss) → InDocument (cond b (record { at = place; code = Code.unbound; detail = k } ∷ []) (missingFrom place (suc k) ss))
+      go : (b : Bool) → InDocument (lacked place (suc k) (map isMissing ss)) → InDocument (cond b (record { at = place; code = Code.unbound; detail = k } ∷ []) (lacked place (suc k) (map isMissing ss)))
       go true r = (record { code = is-unbound {k = k} (omega (arith, l)); place = g }, tt)
       go false r = r
 

@@ -11,7 +11,8 @@ use lib.ListN.{length, getD, set}
 use lib.Bits.{bitAnd, bitOr, and-step, or-step, and-zero-l, and-mask}
 use lib.Count.{trailingZeros}
 use Rattle.rules.specs.Fault.{Fault, first}
-use Rattle.rules.specs.Arguments.{bit, maskOf, without, lacked}
+use Rattle.rules.specs.Binding.{lacked}
+use Rattle.rules.specs.Arguments.{bit, maskOf, without}
 
 half : (m : ℕ) (b : Bool) → (m * 2 + bit b) / 2 ≡ m
 half m true = omega arith

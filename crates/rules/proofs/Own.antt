@@ -18,7 +18,8 @@ use Rattle.syntax.proofs.Table.{toks-more, toks-length, toks-rest}
 use Rattle.rules.specs.Fault.{Fault, faults, starts, earlier, first}
 use Rattle.rules.specs.Names.{those, repeats}
 use Rattle.rules.specs.ListRules.{over, paramNames, headerNames}
-use Rattle.rules.specs.Lists.{isA, upto, onFrom, ItemRun, defaultFaults, headerFaults, endsHeader}
+use Rattle.rules.specs.Lists.{isA, upto, ItemRun, defaultFaults, headerFaults, endsHeader}
+use Rattle.rules.specs.Scans.{fromSymbol}
 use Rattle.rules.proofs.HeaderScans.{those-append, upto-over, from-over}
 use Rattle.rules.proofs.HeaderLayout.{Laid, header-laid, Stops, stops-at, stops-end, run-from, run-names, name-out, arrow-not, word-not}
 use Rattle.rules.proofs.HeaderParses.{cons-head}
@@ -61,14 +62,14 @@ module _ (text table : List ℕ) (n b q : ℕ) (positive : 0 < q) {h : Header} {
 
     -- from an arrow a on, up to the end e
     module _ {a e : ℕ} (low : q + 1 ≤ a) (high : a ≤ e)
-        (before-arrow : toks text table a (q + 1) ≡ upto arrow (toks text table n (q + 1))) (at-arrow : toks text table n a ≡ onFrom arrow (toks text table n (q + 1)))
+        (before-arrow : toks text table a (q + 1) ≡ upto arrow (toks text table n (q + 1))) (at-arrow : toks text table n a ≡ fromSymbol arrow (toks text table n (q + 1)))
         (before-end : toks text table e a ≡ upto fragment (toks text table n a))
       where
         stops : Stops arrow (laid .sign ∷ laid .given)
         stops = stops-at arrow (laid .sign) (laid .given) (laid .an-arrow)
 
         arrow-is : toks text table n a ≡ laid .sign ∷ laid .given
-        arrow-is = at-arrow ∙ ap (onFrom arrow) behind ∙ run-from arrow (λ z. omega arith) arrow-not (laid .the-params) ∙ stops .after
+        arrow-is = at-arrow ∙ ap (fromSymbol arrow) behind ∙ run-from arrow (λ z. omega arith) arrow-not (laid .the-params) ∙ stops .after
 
         pub params-are : those (isA aName) (toks text table a (q + 1)) ≡ paramNames (h .params)
         params-are = ap (those (isA aName)) (before-arrow ∙ ap (upto arrow) behind) ∙ run-names arrow (λ z. omega arith) arrow-not (laid .the-params) stops
@@ -110,11 +111,11 @@ module _ (text table : List ℕ) (n b q : ℕ) (positive : 0 < q) {h : Header} {
             ∙ sym (own-parts h)
 
     -- the scan from behind the word `fragment` on stops where the header ends
-    pub next-there : onFrom fragment (toks text table n q) ≡ us
+    pub next-there : fromSymbol fragment (toks text table n q) ≡ us
     next-there =
         let e : q ≡ q - 1 + 1 = omega arith in
-        ap (λ (k : ℕ). onFrom fragment (toks text table n k)) e
-        ∙ ap (onFrom fragment) (sym (toks-rest text table n (q - 1)) ∙ ap rest (laid .is))
+        ap (λ (k : ℕ). fromSymbol fragment (toks text table n k)) e
+        ∙ ap (fromSymbol fragment) (sym (toks-rest text table n (q - 1)) ∙ ap rest (laid .is))
         ∙ from-over fragment (h .name) (laid .left) (ne-eqb (symOf (h .name)) fragment (λ z. not-name (sym (laid .a-name) ∙ z)))
         ∙ run-from fragment (λ z. omega arith) word-not (laid .the-params)
         ∙ from-over fragment (laid .sign) (laid .given) (ne-eqb (symOf (laid .sign)) fragment (λ z. not-arrow (sym (laid .an-arrow) ∙ z)))

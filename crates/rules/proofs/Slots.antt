@@ -16,8 +16,8 @@ use Rattle.rules.specs.Fault.{Fault, earlier, first}
 use Rattle.rules.specs.Names.{isAmong}
 use Rattle.rules.specs.Reading.{isSome, allTensor}
 use Rattle.rules.specs.ListRules.{paramNames}
-use Rattle.rules.specs.Binding.{leading, labels, byPlace, later, byName, orElse, Slot, slotsFrom, slots, taken, takesPlace, misfit, misfits, missingFrom, missing}
-use Rattle.rules.specs.Arguments.{maskOf, without, lacked, isRequired, isBound, bound, leads}
+use Rattle.rules.specs.Binding.{isMissing, lacked, leading, labels, byPlace, later, byName, orElse, Slot, slotsFrom, slots, taken, takesPlace, misfit, misfits, lacked, missing}
+use Rattle.rules.specs.Arguments.{maskOf, without, isRequired, isBound, bound, leads}
 use Rattle.rules.proofs.First.{earlier-assoc, earlier-comm, first-append}
 use Rattle.rules.proofs.Labels.{leading-named, leading-more, leading-same, leading-length, or-else-none, or-else-assoc, or-else-kept, is-none, is-some-or, given, by-name-more, by-name-same, by-name-none}
 use Rattle.rules.proofs.Sought.{same-is, same-sym, alike, None, Only, only-alike, Nth}
@@ -218,8 +218,8 @@ bound-length (p ∷ ps) vs xs = ap suc (bound-length ps (later vs) xs)
 
 -- a slot is missing where its parameter is required and not bound
 missing-from : (place k : ℕ) (ps : List Param) (vs : List Value) (xs : List Arg)
-    → missingFrom place k (slotsFrom ps vs xs) ≡ lacked place k (without (map isRequired ps) (map isBound (slotsFrom ps vs xs)))
-unfolding missingFrom slotsFrom lacked without
+    → lacked place k (map isMissing (slotsFrom ps vs xs)) ≡ lacked place k (without (map isRequired ps) (map isBound (slotsFrom ps vs xs)))
+unfolding lacked slotsFrom without
 missing-from place k [] vs xs = refl
 missing-from place k (p ∷ ps) vs xs =
     ap₂ (λ (b : Bool) (r : List Fault). cond b (record { at = place; code = 19; detail = k } ∷ []) r) (and-comm (not (isSome (held p vs xs))) (isRequired p)) (missing-from place (suc k) ps (later vs) xs)

@@ -20,7 +20,7 @@ use Rattle.syntax.specs.Parser.Parse.{ok}
 use Rattle.syntax.specs.Table.{toks}
 use Rattle.rules.specs.Names.{those, isAmong, assigned, allAssigned, used, allUsed}
 use Rattle.rules.specs.Tables.{assigner, indexOf, callRecord}
-use Rattle.rules.specs.DocumentRules.{find}
+use Rattle.rules.specs.DocumentRules.{operationOf, find}
 use Rattle.rules.specs.Lists.{Heads, no-head, a-head}
 use Rattle.rules.specs.Scans.{isName, namesAmong, isUse, usesAmong, usesHere}
 use Rattle.rules.specs.Calls.{Calls, CallAt}
@@ -160,7 +160,7 @@ wire-none cs t ts wires w h = sym (ap (λ (l : List Token). sets wires w (flatMa
 -- ---- the index of an operation
 
 pub index-missing : (hs : List Header) (t : Token) → find hs t ≡ nothing → indexOf hs t ≡ length hs
-unfolding find indexOf
+unfolding operationOf indexOf
 index-missing [] t h = refl
 index-missing (g ∷ hs) t h = go (sameBytes (g .name .bytes) (t .bytes)) h (index-missing hs t)
   where

@@ -49,11 +49,6 @@ without [] bs = []
 without (r ∷ rs) [] = r ∷ without rs []
 without (r ∷ rs) (b ∷ bs) = (r && not b) ∷ without rs bs
 
--- 19 with the number of the first flag, the first of the list being k
-unfoldable pub lacked : ℕ → ℕ → List Bool → List Fault
-lacked place k [] = []
-lacked place k (b ∷ bs) = let r = lacked place (suc k) bs in cond b (record { at = place; code = Code.unbound; detail = k } ∷ []) r
-
 -- ---- the flags of parameters
 
 abbrev pub isRequired : Param → Bool

@@ -1,6 +1,6 @@
 -- Binding of a call's arguments to the parameters of its operation: codes 16 to 19.
 use Prim.Native.Nat.{ℕ, suc}
-use mathlib.Core.List.{List, [], _∷_, _++_, flatMap, flatten}
+use mathlib.Core.List.{List, [], _∷_, _++_, map, flatMap, flatten}
 use mathlib.Core.Bool.{Bool, true, false, cond, not, _&&_}
 use mathlib.Core.Option.{Option, some}
 use mathlib.Core.Option.{none as nothing}
@@ -104,9 +104,10 @@ misfits ss = flatMap (λ (s : Slot). misfit (s .param .ty) (s .value)) ss
 abbrev pub isMissing : Slot → Bool
 isMissing s = not (isSome (s .value)) && not (isSome (s .param .default))
 
-unfoldable pub missingFrom : ℕ → ℕ → List Slot → List Fault
-missingFrom place k [] = []
-missingFrom place k (s ∷ ss) = let r = missingFrom place (suc k) ss in cond (isMissing s) (record { at = place; code = Code.unbound; detail = k } ∷ []) r
+-- 19 at a place, with the number of the first flag that is set, the first of the list being number k
+unfoldable pub lacked : ℕ → ℕ → List Bool → List Fault
+lacked place k [] = []
+lacked place k (b ∷ bs) = let r = lacked place (suc k) bs in cond b (record { at = place; code = Code.unbound; detail = k } ∷ []) r
 
 abbrev pub missing : ℕ → List Slot → List Fault
-missing place ss = missingFrom place 0 ss
+missing place ss = lacked place 0 (map isMissing ss)

@@ -37,9 +37,13 @@ unfoldable pub graphRepeats : Document → List Fault
 graphRepeats d = faults Code.repeatedName (starts (repeats (d .inputs ++ d .outputs)))
 
 -- the declared operation of a name
-unfoldable pub find : List Header → Token → Option Header
-find [] t = nothing
-find (h ∷ hs) t = let r = find hs t in cond (sameBytes (h .name .bytes) (t .bytes)) (some h) r
+unfoldable pub operationOf : List Header → List ℕ → Option Header
+operationOf [] w = nothing
+operationOf (h ∷ hs) w = let r = operationOf hs w in cond (sameBytes (h .name .bytes) w) (some h) r
+
+-- the declared operation that a token names
+abbrev pub find : List Header → Token → Option Header
+find hs t = operationOf hs (t .bytes)
 
 -- the faults of a call whose operation was looked up: those that a declared one gives, or those of an undeclared one
 abbrev pub byOperation : Option Header → (Header → List Fault) → List Fault → List Fault
@@ -50,16 +54,27 @@ byOperation (some h) f g = f h
 unfoldable pub undeclared : List Header → Call → List Fault
 undeclared hs c = byOperation (find hs (c .op)) (λ h. []) (fault Code.undeclared (c .op .start) ∷ [])
 
+-- 16 to 19 of a call of the operation that h declares, its name standing at this place
+abbrev pub boundAt : ℕ → Header → Call → List Fault
+boundAt place h c =
+    flatten
+    (misplaced (h .params) (c .args)
+    ∷ misnamed (h .params) (c .args)
+    ∷ misfits (slots (h .params) (c .args))
+    ∷ missing place (slots (h .params) (c .args))
+    ∷ [])
+
 -- 16 to 19: argument faults; an undeclared operation has none
 unfoldable pub argumentFaults : List Header → Call → List Fault
-argumentFaults hs c =
-    byOperation (find hs (c .op)) (λ h.
-    let ss = slots (h .params) (c .args) in
-    flatten (misplaced (h .params) (c .args) ∷ misnamed (h .params) (c .args) ∷ misfits ss ∷ missing (c .op .start) ss ∷ [])) []
+argumentFaults hs c = byOperation (find hs (c .op)) (λ h. boundAt (c .op .start) h c) []
 
--- 20: the left side does not match the results, at its start; with an undeclared operation it is not held to anything
+-- 20 of a call of the operation that h declares: the left side does not match the results, at its start
+abbrev pub leftFaults : Header → Call → List Fault
+leftFaults h c = unless (fits (c .left) (resultType (h .results))) (fault Code.unmatched (startOf (c .left)))
+
+-- 20: a left side that does not match; with an undeclared operation it is not held to anything
 unfoldable pub unmatched : List Header → Call → List Fault
-unmatched hs c = byOperation (find hs (c .op)) (λ h. unless (fits (c .left) (resultType (h .results))) (fault Code.unmatched (startOf (c .left)))) []
+unmatched hs c = byOperation (find hs (c .op)) (λ h. leftFaults h c) []
 
 -- all faults of a document
 unfoldable pub documentFaults : List Header → Document → List Fault

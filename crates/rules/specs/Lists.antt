@@ -27,14 +27,10 @@ use Rattle.rules.specs.declared.operation.Lookup.the-variants.{At, Missi
 abbrev pub isA : ℕ → Token → Bool
 isA s t = eqb (symOf t) s
 
--- the tokens before the first of the terminal s, and those from it on
+-- the tokens before the first of the terminal s
 unfoldable pub upto : ℕ → List Token → List Token
 upto s [] = []
 upto s (t ∷ ts) = let r = upto s ts in cond (isA s t) [] (t ∷ r)
-
-unfoldable pub onFrom : ℕ → List Token → List Token
-onFrom s [] = []
-onFrom s (t ∷ ts) = let r = onFrom s ts in cond (isA s t) (t ∷ ts) r
 
 -- ---- one header
 

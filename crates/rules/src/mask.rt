@@ -8,7 +8,8 @@ ghost use Prim.Native.Nat.{_<_, _≤_};
 ghost use lib.ListN.{length, getD, set};
 ghost use Rattle.rules.specs.Fault.{first};
 ghost use Rattle.rules.specs.Best.{meant};
-ghost use Rattle.rules.specs.Arguments.{maskOf, without, lacked};
+ghost use Rattle.rules.specs.Binding.{lacked};
+ghost use Rattle.rules.specs.Arguments.{maskOf, without};
 
 // A mask has room for as many parameters as an operation may have.
 pub const MASK_BITS: u32 = 32;

@@ -10,7 +10,8 @@ ghost use Rattle.rules.specs.Fault.{first, starts};
 ghost use Rattle.rules.specs.Best.{meant};
 ghost use Rattle.rules.specs.Names.{those};
 ghost use Rattle.rules.specs.ListRules.{over};
-ghost use Rattle.rules.specs.Lists.{isA, upto, onFrom};
+ghost use Rattle.rules.specs.Lists.{isA, upto};
+ghost use Rattle.rules.specs.Scans.{fromSymbol};
 
 // The place of the first terminal s from place `at` on, or n.
 pub fn next_of(text: &[u8], table: &[u32], n: usize, at: usize, s: u32) -> usize
@@ -18,7 +19,7 @@ pub fn next_of(text: &[u8], table: &[u32], n: usize, at: usize, s: u32) -> usize
     requires { ⌜ at ≤ n ⌝ }
     ensures range { λ r. ⌜ (at ≤ r) × (r ≤ n) ⌝ }
     ensures before { λ r. ⌜ toks (now (text .entry)) (now (table .entry)) r at ≡ upto s (toks (now (text .entry)) (now (table .entry)) n at) ⌝ }
-    ensures after { λ r. ⌜ toks (now (text .entry)) (now (table .entry)) n r ≡ onFrom s (toks (now (text .entry)) (now (table .entry)) n at) ⌝ }
+    ensures after { λ r. ⌜ toks (now (text .entry)) (now (table .entry)) n r ≡ fromSymbol s (toks (now (text .entry)) (now (table .entry)) n at) ⌝ }
 {
     let mut i = at;
     while i < n {

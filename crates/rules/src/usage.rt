@@ -28,10 +28,10 @@ ghost use Rattle.syntax.specs.Table.{toks, Holds};
 ghost use Rattle.rules.specs.Fault.{first};
 ghost use Rattle.rules.specs.Best.{meant};
 ghost use Rattle.rules.specs.ListRules.{listFaults};
-ghost use Rattle.rules.specs.DocumentRules.{documentFaults};
+ghost use Rattle.rules.specs.DocumentRules.{boundAt, leftFaults, documentFaults};
 ghost use Rattle.rules.specs.Lists.{headerFaults, Heads, NamePlaces};
 ghost use Rattle.rules.specs.Calls.{Calls, CallAt};
-ghost use Rattle.rules.specs.Operations.{operationFaults, boundFaults, leftFaults, Opened};
+ghost use Rattle.rules.specs.Operations.{operationFaults, Opened};
 
 // The first fault of the call at place `at`, whose parts stand at these places, if its operation is the one whose name stands at place q:
 // codes 16 to 20.
@@ -50,7 +50,7 @@ fn declared_faults(
     requires { ⌜ Holds (now dtext) (now dtable) dn ⌝ }
     requires { ⌜ (q + 2 ≤ ln) × (at < dn) × (places .equal + 1 < dn) ⌝ }
     ensures { λ r. ⌜ ((h : Header) (us : List Token) (c : Call) (ws : List Token) → 0 < q → header maxBrackets (toks (now (ltext .entry)) (now (ltable .entry)) ln (q - 1)) ≡ ok h us → first (headerFaults h) ≡ nothing →
-        call maxBrackets (toks (now (dtext .entry)) (now (dtable .entry)) dn at) ≡ ok c ws → CallAt (now (dtext .entry)) (now (dtable .entry)) dn at places c ws → meant r ≡ first (boundFaults h c ++ leftFaults h c)) ⌝ }
+        call maxBrackets (toks (now (dtext .entry)) (now (dtable .entry)) dn at) ≡ ok c ws → CallAt (now (dtext .entry)) (now (dtable .entry)) dn at places c ws → meant r ≡ first (boundAt (c .op .start) h c ++ leftFaults h c)) ⌝ }
 {
     let args = places.equal + 3;
     let name = start_at(dtable, places.equal + 1);

@@ -1,0 +1,88 @@
+-- The table of codes, one constructor for each line: its code, the text that it names, the positions that it may have, its detail.
+-- `docs/RULES.md` has the same table for users.
+use Prim.Native.Nat.{ℕ, _≤_, _<_}
+use mathlib.Core.Path.{_≡_}
+use mathlib.Core.List.{List, _∷_}
+use mathlib.Core.Logic.{_⊎_}
+use lib.ListN.{length}
+use Rattle.lexis.specs.Sizes.{maxText, maxParameters}
+use Rattle.lexis.specs.Code as Bytes
+use Rattle.lexis.specs.Answer.{answer}
+use Rattle.lexis.specs.declared.Answer.{Answer}
+use Rattle.syntax.specs.Code as Syntax
+use Rattle.rules.specs.Code as Rules
+use Rattle.rules.specs.Accepted.{StartsToken}
+use Rattle.canonical.specs.Code as Writing
+
+-- the texts that an operation is lent: the operation list, or the sole text, is number 1, the document number 2
+pub data TextOf : List (List ℕ) → ℕ → List ℕ → Type 0 where
+  first-text : {text : List ℕ} {more : List (List ℕ)} → TextOf (text ∷ more) 1 text
+  second-text : {other text : List ℕ} {more : List (List ℕ)} → TextOf (other ∷ text ∷ more) 2 text
+
+-- the positions of a line: a byte of the text; where one of its tokens starts; that, or its end
+abbrev pub AByte : List ℕ → ℕ → Type 0
+AByte text p = p < length text
+
+abbrev pub AToken : List ℕ → ℕ → Type 0
+AToken text p = StartsToken text p
+
+abbrev pub ATokenOrEnd : List ℕ → ℕ → Type 0
+ATokenOrEnd text p = StartsToken text p ⊎ (p ≡ length text)
+
+-- An answer about these texts. `Count` says what acceptance counts, `Length` how long a canonical text of them is: an operation that writes
+-- none has no such length, and so neither of the last two lines.
+pub data InTable (texts : List (List ℕ)) (Count Length : ℕ → Type 0) : Answer → Type 0 where
+  -- 0: acceptance, with its count
+  accepted : {n : ℕ} → Count n → InTable texts Count Length (answer Bytes.accepted 0 0 n)
+  -- 1: a lent table or work area is too short
+  short-room : InTable texts Count Length (answer Bytes.shortTable 0 0 0)
+  -- 2: a text is too long; the position is the first byte beyond
+  long-text : {n : ℕ} {text : List ℕ} → TextOf texts n text → maxText < length text → InTable texts Count Length (answer Bytes.longText n maxText 0)
+  -- 3: a byte begins no token
+  no-token : {n p : ℕ} {text : List ℕ} → TextOf texts n text → AByte text p → InTable texts Count Length (answer Bytes.noToken n p 0)
+  -- 4: a number is misspelt
+  misspelt : {n p : ℕ} {text : List ℕ} → TextOf texts n text → AByte text p → InTable texts Count Length (answer Bytes.misspelt n p 0)
+  -- 5: a string is unclosed, or holds a byte outside 32 to 126
+  bad-string : {n p : ℕ} {text : List ℕ} → TextOf texts n text → AByte text p → InTable texts Count Length (answer Bytes.badString n p 0)
+  -- 6: a name, string or number is too long
+  too-long : {n p : ℕ} {text : List ℕ} → TextOf texts n text → AByte text p → InTable texts Count Length (answer Bytes.tooLong n p 0)
+  -- 7: a number is out of range
+  out-of-range : {n p : ℕ} {text : List ℕ} → TextOf texts n text → AByte text p → InTable texts Count Length (answer Bytes.outOfRange n p 0)
+  -- 8: there are too many tokens
+  too-many : {n p : ℕ} {text : List ℕ} → TextOf texts n text → AByte text p → InTable texts Count Length (answer Bytes.tooMany n p 0)
+  -- 9: no valid text has this token here, or ends here
+  syntax : {n p : ℕ} {text : List ℕ} → TextOf texts n text → ATokenOrEnd text p → InTable texts Count Length (answer Syntax.syntax n p 0)
+  -- 10: a ninth bracket is opened
+  bracket : {n p : ℕ} {text : List ℕ} → TextOf texts n text → ATokenOrEnd text p → InTable texts Count Length (answer Syntax.bracket n p 0)
+  -- 11: the version is not spelt `1.0`
+  wrong-version : {p : ℕ} {text : List ℕ} → TextOf texts 2 text → AToken text p → InTable texts Count Length (answer Rules.wrongVersion 2 p 0)
+  -- 12: a count is above its size
+  over-size : {n p : ℕ} {text : List ℕ} → TextOf texts n text → AToken text p → InTable texts Count Length (answer Rules.overSize n p 0)
+  -- 13: a name is repeated
+  repeated-name : {n p : ℕ} {text : List ℕ} → TextOf texts n text → AToken text p → InTable texts Count Length (answer Rules.repeatedName n p 0)
+  -- 14: a default does not fit
+  bad-default : {p : ℕ} {text : List ℕ} → TextOf texts 1 text → AToken text p → InTable texts Count Length (answer Rules.badDefault 1 p 0)
+  -- 15: an operation is not declared
+  undeclared : {p : ℕ} {text : List ℕ} → TextOf texts 2 text → AToken text p → InTable texts Count Length (answer Rules.undeclared 2 p 0)
+  -- 16: a positional argument after a named one, beyond the parameters, or for a parameter that is not all tensor
+  misplaced : {p : ℕ} {text : List ℕ} → TextOf texts 2 text → AToken text p → InTable texts Count Length (answer Rules.misplaced 2 p 0)
+  -- 17: a named argument is unknown or already bound
+  misnamed : {p : ℕ} {text : List ℕ} → TextOf texts 2 text → AToken text p → InTable texts Count Length (answer Rules.misnamed 2 p 0)
+  -- 18: a bound argument does not fit
+  misfit : {p : ℕ} {text : List ℕ} → TextOf texts 2 text → AToken text p → InTable texts Count Length (answer Rules.misfit 2 p 0)
+  -- 19: a parameter without default is not bound; the detail is its index, from 0
+  unbound : {p k : ℕ} {text : List ℕ} → TextOf texts 2 text → AToken text p → k < maxParameters → InTable texts Count Length (answer Rules.unbound 2 p k)
+  -- 20: a left side does not match the results
+  unmatched : {p : ℕ} {text : List ℕ} → TextOf texts 2 text → AToken text p → InTable texts Count Length (answer Rules.unmatched 2 p 0)
+  -- 21: an identifier is assigned again
+  assigned-again : {p : ℕ} {text : List ℕ} → TextOf texts 2 text → AToken text p → InTable texts Count Length (answer Rules.assignedAgain 2 p 0)
+  -- 22: an identifier is used, and not assigned by an earlier call
+  unassigned-use : {p : ℕ} {text : List ℕ} → TextOf texts 2 text → AToken text p → InTable texts Count Length (answer Rules.unassignedUse 2 p 0)
+  -- 23: an input is not assigned by `external`, or another identifier is
+  misfed : {p : ℕ} {text : List ℕ} → TextOf texts 2 text → AToken text p → InTable texts Count Length (answer Rules.misfed 2 p 0)
+  -- 24: an output is never assigned
+  unassigned-output : {p : ℕ} {text : List ℕ} → TextOf texts 2 text → AToken text p → InTable texts Count Length (answer Rules.unassignedOutput 2 p 0)
+  -- 25: the canonical text has too many bytes or tokens
+  over-limits : {n : ℕ} → Length n → InTable texts Count Length (answer Writing.overLimits 0 0 0)
+  -- 26: the output is shorter than the canonical text, which has so many bytes
+  short-output : {n : ℕ} → Length n → n ≤ maxText → InTable texts Count Length (answer Writing.shortOutput 0 0 n)
