@@ -3,7 +3,7 @@
 use mathlib.Core.Path.{_≡_, refl, sym, ap, _∙_}
 use mathlib.Core.Bool.{Bool, true, false, cond}
 use mathlib.Core.List.{List, [], _∷_}
-use Prim.Native.Nat.{ℕ, _≤_}
+use Prim.Native.Nat.{ℕ, _≤_, _<_}
 use native.Mathlib.Omega.{arith}
 use lib.Dec.{eqb, leb}
 use lib.ListN.{length, take}
@@ -15,7 +15,8 @@ use Rattle.lexis.specs.Kind as Kind
 use Rattle.lexis.specs.Bytes.{classOf, isNamePart, isContent, spanLen}
 use Rattle.lexis.specs.Words.{sameBytes, words, kindIn, kindOfWord}
 use Rattle.lexis.specs.Number.{Reduced}
-use Rattle.lexis.specs.Lexer.{Token, accepted, lex}
+use Rattle.lexis.specs.Code as Code
+use Rattle.lexis.specs.Lexer.{Token, accepted, refused, lex}
 use Rattle.syntax.specs.Tree.{Ty, Tys, Param, Header}
 use Rattle.syntax.specs.Grammar.{Leaves, both}
 use Rattle.rules.specs.Reading.{Val, Vals}
@@ -28,7 +29,7 @@ use Rattle.canonical.proofs.Found.{params-found}
 use Rattle.canonical.proofs.Runs.{next, span-all, differs}
 use Rattle.canonical.proofs.Digits.{are-digits}
 use Rattle.canonical.proofs.Numbers.{Apart}
-use Rattle.canonical.proofs.Lexing.{isSpace, Lexes, Chain, nil, link, lex-again, Begins, begins, digits-begin, word-begins, number-begins, word-lexes, whole-lexes, number-lexes, string-lexes, mark-lexes, equals-lexes, arrow-lexes, version-lexes}
+use Rattle.canonical.proofs.Lexing.{isSpace, Lexes, Chain, nil, link, lex-again, lex-too-many, Begins, begins, digits-begin, word-begins, number-begins, word-lexes, whole-lexes, number-lexes, string-lexes, mark-lexes, equals-lexes, arrow-lexes, version-lexes}
 
 -- pieces that are lexed back, also right after a word or a number
 record AfterWord (r : List Piece) : Type 0 where
@@ -208,3 +209,8 @@ document-chain f =
 pub lex-canonical : (hs : List Header) (p : Plan) → PlanFits hs p → length (documentPieces hs p) ≤ maxTokens → lex (canonical hs p) ≡ accepted (tokensAt 0 (documentPieces hs p))
 unfolding canonical
 lex-canonical hs p f h = lex-again 0 0 (document-chain f) (omega arith)
+
+-- where there are more pieces than a text may have tokens, it is refused with code 8
+pub lex-over : (hs : List Header) (p : Plan) → PlanFits hs p → maxTokens < length (documentPieces hs p) → (q : ℕ) × (lex (canonical hs p) ≡ refused Code.tooMany q)
+unfolding canonical
+lex-over hs p f h = lex-too-many 0 0 (document-chain f) (omega arith) (omega (arith, h))

@@ -1,15 +1,16 @@
 -- A text of pieces is lexed back to their tokens where the lexer finds each piece before those that follow it (`lex-again`); and it finds
 -- each sort of piece of canonical text: words, numbers, strings, marks.
 use mathlib.Core.Path.{_≡_, refl, sym, _∙_}
-use mathlib.Core.Bool.{Bool, false}
+use mathlib.Core.Bool.{Bool, true, false}
 use mathlib.Core.List.{List, [], _∷_, _++_, append-assoc}
 use Prim.Native.Nat.{ℕ, suc, _+_, _≤_, _<_}
 use native.Mathlib.Omega.{arith}
-use lib.Dec.{eqb}
+use lib.Dec.{eqb, ltb}
 use lib.ListN.{length, length-append}
 use lib.Seq.{take-append-seam, drop-append-seam, getD-append-seam}
-use borrow.Author.Tests.{lt-ltb, le-leb, eq-eqb}
+use borrow.Author.Tests.{lt-ltb, ltb-true, le-leb, eq-eqb}
 use Rattle.lexis.specs.Sizes.{maxName, maxString, maxTokens, mantissaEnd}
+use Rattle.lexis.specs.Code as Code
 use Rattle.lexis.specs.Ascii.{ascii, byte}
 use Rattle.lexis.specs.Class as Class
 use Rattle.lexis.specs.Kind as Kind
@@ -17,7 +18,7 @@ use Rattle.lexis.specs.Bytes.{classOf, isNamePart, isContent, spanLen, gapFrom,
 use Rattle.lexis.specs.Words.{kindOfWord}
 use Rattle.lexis.specs.Number.{Reduced, partsOf, fracLen, expLen, signLen, isE, inRange, reducedOf, writtenOf, minusOf, isSmall, isNear, strip, valueFrom, sticks}
 use Rattle.lexis.specs.Lexeme.{numberLexeme, wordLexeme, stringLexeme, markLexeme, isPair, isArrow, takesEqual, lexeme}
-use Rattle.lexis.specs.Lexer.{accepted, prepend, lexFrom}
+use Rattle.lexis.specs.Lexer.{accepted, refused, prepend, lexFrom}
 use Rattle.lexis.specs.declared.token.Lexeme.{Lexeme}
 use Rattle.lexis.specs.declared.token.Lexeme.the-variants.{Token}
 use Rattle.lexis.proofs.Lexer.{lex-nil, lex-gap, lex-token}
@@ -71,6 +72,17 @@ unfolding text tokensAt
 lex-again n at nil h = lex-nil 0 n at
 lex-again n at (link {p} l c) h =
     lex-piece n at l (omega arith) (chain-solid c) ∙ simp (lex-again (suc n) (at + length (p .bytes) + length (p .space)) c (omega arith))
+
+-- a chain of more pieces than a text may have tokens is refused with code 8
+pub lex-too-many : {ps : List Piece} (n at : ℕ) → Chain ps → n ≤ maxTokens → maxTokens < n + length ps → (p : ℕ) × (lexFrom 0 n at (text ps) ≡ refused Code.tooMany p)
+unfolding text
+lex-too-many n at nil l h = absurd (omega (arith, l, h))
+lex-too-many n at (link {p} {ps} l c) m h = go (ltb n maxTokens) refl (λ k. lex-too-many (suc n) (at + length (p .bytes) + length (p .space)) c k (omega (arith, h)))
+  where
+    go : (b : Bool) → ltb n maxTokens ≡ b → (suc n ≤ maxTokens → (q : ℕ) × (lexFrom 0 (suc n) (at + length (p .bytes) + length (p .space)) (text ps) ≡ refused Code.tooMany q))
+        → (q : ℕ) × (lexFrom 0 n at (p .bytes ++ (p .space ++ text ps)) ≡ refused Code.tooMany q)
+    go true e r = let k = ltb-true n maxTokens e in let x = r (omega (arith, k)) in (x .0, lex-piece n at l k (chain-solid c) ∙ rw (x .1))
+    go false e r = (at, lex-token n at (p .bytes ++ (p .space ++ text ps)) (simp length-append (omega (arith, l .some))) (l .solid) ∙ simp (l .found, e))
 
 -- ---- by the first byte
 

@@ -1,6 +1,9 @@
--- The theorems and the worked cases, the pages to read first.
+-- The demands, the theorems of canon and the worked cases, the pages to read first; then what the first of them cites.
+pub mod Demands
 pub mod Theorems
 pub mod Cases
+pub mod Answers
+pub mod InTables
 -- Plans that fit, and the trees of canonical text.
 pub mod Fit
 pub mod Shape

@@ -2,7 +2,7 @@
 -- values, as in every call that has a plan.
 use mathlib.Core.Path.{_≡_, refl, sym, ap, ap₂, _∙_}
 use mathlib.Core.Bool.{Bool, true, false, not, _&&_, _||_, or-false, or-true, true≢false}
-use mathlib.Core.List.{List, [], _∷_, _++_, flatMap, flatten, append-assoc}
+use mathlib.Core.List.{List, [], _∷_, _++_, flatMap, flatten, append-assoc, map}
 use mathlib.Core.Option.{Option, some}
 use mathlib.Core.Option.{none as nothing}
 use Prim.Native.Nat.{ℕ, suc}
@@ -12,7 +12,7 @@ use Rattle.syntax.specs.Tree.{Value, Ty, Param, Arg}
 use Rattle.rules.specs.Names.{those, isAmong, repeatsAfter, repeats}
 use Rattle.rules.specs.Reading.{Val, bind, readAt, isSome, fits}
 use Rattle.rules.specs.ListRules.{paramNames}
-use Rattle.rules.specs.Binding.{Slot, leading, labels, byName, orElse, slotsFrom, slots, later, taken, misplacedFrom, misnamed, misfit, misfits, lacked}
+use Rattle.rules.specs.Binding.{isMissing, Slot, leading, labels, byName, orElse, slotsFrom, slots, later, taken, misplacedFrom, misnamed, misfit, misfits, lacked}
 use Rattle.rules.specs.Wiring.{strangers}
 use Rattle.rules.proofs.Lookups.{among-append}
 use Rattle.rules.proofs.Sought.{same-self, same-sym}

@@ -2,7 +2,7 @@
 -- parameters has a value that reads. In order: lists without faults; a parameter; all parameters; a call; the document.
 use mathlib.Core.Path.{_≡_, refl, sym, ap, _∙_}
 use mathlib.Core.Bool.{Bool, true, false, cond, not, _&&_, true≢false}
-use mathlib.Core.List.{List, [], _∷_, _++_, flatMap, flatten, append-eq-nil-iff}
+use mathlib.Core.List.{List, [], _∷_, _++_, flatMap, flatten, append-eq-nil-iff, map}
 use mathlib.Core.Option.{Option, some}
 use mathlib.Core.Option.{none as nothing}
 use Prim.Native.Nat.{ℕ, suc}

@@ -9,7 +9,7 @@ use Rattle.canonical.proofs.Shape.{CanonCall, CanonCalls, no-calls, a-c
 
 call-plan : {hs : List Header} {c : PlanCall} {t : Call} → CanonCall hs c t → planCall hs t ≡ some c
 unfolding planCall
-call-plan s = simp (s .found, s .left, named-values (s .args) (s .distinct), s .op)
+call-plan s = rw (s .found, s .left, named-values (s .args) (s .distinct), s .op)
 
 calls-plan : {hs : List Header} {cs : List PlanCall} {ts : List Call} → CanonCalls hs cs ts → planCalls hs ts ≡ some cs
 unfolding planCalls

@@ -49,7 +49,7 @@ one-plan hs doc p q x y =
 
 -- ---- the stages of canon
 
-layout-is : (hs : List Header) (d : Document) (p : Plan) → planOf hs d ≡ some p → layoutOf hs d ≡ documentPieces hs p
+pub layout-is : (hs : List Header) (d : Document) (p : Plan) → planOf hs d ≡ some p → layoutOf hs d ≡ documentPieces hs p
 unfolding layoutOf
 layout-is hs d p e = rw e
 

@@ -9,10 +9,16 @@ use Rattle.lexis.specs.Sizes.{maxText, maxParameters}
 use Rattle.lexis.specs.Code as Bytes
 use Rattle.lexis.specs.Answer.{answer}
 use Rattle.lexis.specs.declared.Answer.{Answer}
+use Rattle.lexis.specs.Lexer.{Token, lex}
+use Rattle.lexis.specs.Lexer.{accepted as lexed}
 use Rattle.syntax.specs.Code as Syntax
 use Rattle.rules.specs.Code as Rules
-use Rattle.rules.specs.Accepted.{StartsToken}
+use Rattle.syntax.specs.Tree.{Header, Document}
+use Rattle.rules.specs.Accepted.{AcceptedList, AcceptedDocument, StartsToken}
 use Rattle.canonical.specs.Code as Writing
+use Rattle.canonical.specs.Plan.{Plan}
+use Rattle.canonical.specs.Layout.{canonical}
+use Rattle.canonical.specs.Demand.{HasPlan}
 
 -- the texts that an operation is lent: the operation list, or the sole text, is number 1, the document number 2
 pub data TextOf : List (List ℕ) → ℕ → List ℕ → Type 0 where
@@ -86,3 +92,25 @@ pub data InTable (texts : List (List ℕ)) (Count Length : ℕ → Type 0) : Ans
   over-limits : {n : ℕ} → Length n → InTable texts Count Length (answer Writing.overLimits 0 0 0)
   -- 26: the output is shorter than the canonical text, which has so many bytes
   short-output : {n : ℕ} → Length n → n ≤ maxText → InTable texts Count Length (answer Writing.shortOutput 0 0 n)
+
+-- ---- what the operations count
+
+-- the tokens of a text
+abbrev pub TokenCount : List ℕ → ℕ → Type 0
+TokenCount text n = (ts : List Token) × ((lex text ≡ lexed ts) × (n ≡ length ts))
+
+-- the operations of an accepted list
+abbrev pub OperationCount : List ℕ → ℕ → Type 0
+OperationCount list n = (hs : List Header) × (AcceptedList list hs × (n ≡ length hs))
+
+-- the calls of a document that is accepted under an accepted list
+abbrev pub CallCount : List ℕ → List ℕ → ℕ → Type 0
+CallCount list doc n = (hs : List Header) × ((d : Document) × (AcceptedList list hs × (AcceptedDocument hs doc d × (n ≡ length (d .calls)))))
+
+-- the bytes of the canonical text of a document that is accepted under an accepted list
+abbrev pub CanonicalLength : List ℕ → List ℕ → ℕ → Type 0
+CanonicalLength list doc n = (hs : List Header) × ((p : Plan) × (AcceptedList list hs × (HasPlan hs doc p × (n ≡ length (canonical hs p)))))
+
+-- no canonical text
+abbrev pub NoText : ℕ → Type 0
+NoText n = ⊥

@@ -1,10 +1,12 @@
--- What demand 3 speaks of: documents with their plans, canonical texts within the limits, and what canon writes.
+-- What the demands speak of: documents with their plans, canonical texts within the limits, what canon is lent and writes.
 use Prim.Native.Nat.{ℕ, _≤_}
 use mathlib.Core.Path.{_≡_}
 use mathlib.Core.List.{List}
+use mathlib.Core.Logic.{_⊎_}
 use mathlib.Core.Option.{some}
 use lib.ListN.{length, take}
 use Rattle.lexis.specs.Sizes.{maxText, maxTokens, workWords}
+use Rattle.lexis.specs.Code as Code
 use Rattle.lexis.specs.declared.Answer.{Answer}
 use Rattle.syntax.specs.Tree.{Header, Document}
 use Rattle.rules.specs.Accepted.{AcceptedDocument}
@@ -37,6 +39,10 @@ pub record Serves (l : Lent) (bytes : List ℕ) : Type 0 where
   pub first : workWords ≤ l .work₁
   pub second : workWords ≤ l .work₂
   pub holds : length bytes ≤ length (l .out)
+
+-- a refusal of what is lent: code 1 or 2
+abbrev pub IsGuard : Answer → Type 0
+IsGuard r = (r .code ≡ Code.shortTable) ⊎ (r .code ≡ Code.longText)
 
 -- the four numbers, the output afterwards, and its first bytes, as many as the count says
 unfoldable pub numbers : List ℕ → List ℕ → Lent → Answer

@@ -19,8 +19,8 @@ tokens-fit-requires c κs = search needs
 
 returns-2 : tie.Need-returns-2
 returns-2 c =
-    let s = c .before .before .before .before in
-    c .tokens-fit .ensures ∙ sym (ap (λ (x : Bool). x && leb (s .args .size .tokens) maxTokens) (sym (s .text-fits .ensures) ∙ not-false _ (c .before .before .if1 .left)))
+    let s = c .before .before .before in
+    c .tokens-fit .ensures ∙ sym (ap (λ (x : Bool). x && leb (s .args .size .tokens) maxTokens) (sym (c .before .before .text-fits .ensures) ∙ not-false _ (c .before .if1 .left)))
 
 pub keeps-limits-spec : {M : Type 1} → statement M
 keeps-limits-spec = tie.close (tie.spec text-fits-requires returns tokens-fit-requires returns-2)

@@ -1,0 +1,270 @@
+-- The three demands, clause by clause and in their order, for the four operations: statements, each proved in a file that is named at its
+-- `use`. What the words mean stands in specs/: answers and lent words afterwards in `Answer` of each crate, acceptance in `Accepted`
+-- and the first fault in `Fault` of `rules`, the table of codes in `CodeTable`, plans and canonical texts in `Plan` and `Layout`.
+-- `docs/DEMANDS.md` reads this page aloud.
+use mathlib.Core.Path.{_≡_}
+use mathlib.Core.Bool.{true, false}
+use mathlib.Core.List.{List, [], _∷_, _++_}
+use mathlib.Core.Logic.{_⊎_, _↔_}
+use Prim.Native.Nat.{ℕ, _*_, _≤_, _<_}
+use lib.ListN.{length, getD, replicate}
+use lib.Seq.{sets}
+use Rattle.lexis.specs.Sizes.{maxText, maxTokens, maxBrackets, tokenWords, tableWords, workWords}
+use Rattle.lexis.specs.Code as Code
+use Rattle.lexis.specs.Lexer.{Token, accepted, refused, lex, Placed, Kinded}
+use Rattle.lexis.specs.Answer.{answer, records, tokensAnswer, tokensTable}
+use Rattle.lexis.proofs.Theorems as Lexis
+use Rattle.syntax.specs.Tree.{Header, Call, Document}
+use Rattle.syntax.specs.Grammar.{IsList, IsDocument}
+use Rattle.syntax.specs.Fault.{FirstFault}
+use Rattle.syntax.specs.Table.{placeOf}
+use Rattle.rules.specs.Fault.{Fault, IsFirst}
+use Rattle.rules.specs.Names.{used}
+use Rattle.rules.specs.ListRules.{listFaults}
+use Rattle.rules.specs.DocumentRules.{documentFaults}
+use Rattle.rules.specs.Tables.{callTable, wireTable, assigner}
+use Rattle.rules.specs.Wired.{AssignedBy}
+use Rattle.rules.specs.Answer.{declarationsAnswer, CheckRoom, checkRoom, checkServes, checked, checkAnswer, callsAfter, wiresAfter, workAfter}
+use Rattle.rules.specs.Accepted.{AcceptedList, AcceptedDocument}
+use Rattle.rules.proofs.Theorems as Rules
+use Rattle.canonical.specs.Code as Writing
+use Rattle.canonical.specs.Plan.{Plan}
+use Rattle.canonical.specs.Layout.{documentPieces, canonical}
+use Rattle.canonical.specs.Answer.{canonServes}
+use Rattle.canonical.specs.Demand.{HasPlan, Keeps, Lent, roomOf, Serves, numbers, output, bytesWritten, IsGuard}
+use Rattle.canonical.specs.CodeTable.{InTable, TokenCount, OperationCount, CallCount, CanonicalLength, NoText}
+use Rattle.canonical.proofs.InTables as InTables
+use Rattle.canonical.proofs.Theorems as Canonical
+use Rattle.canonical.proofs.Answers as Answers
+
+-- ==== Demand 1. Whatever bytes and buffers are lent, every entry point ends, touches nothing beyond them, and answers with four numbers
+-- from the table. That it ends and stays inside what is lent is what a proved contract says: those of `tokens`, `declarations`,
+-- `check` and `canon` have no `requires`.
+
+-- ---- the four numbers are on a line of the table
+
+pub tokens-in-table : (text table : List ℕ) → InTable (text ∷ []) (TokenCount text) NoText (tokensAnswer text table)
+tokens-in-table = InTables.tokens-in
+
+pub declarations-in-table : (list : List ℕ) (work : ℕ) → InTable (list ∷ []) (OperationCount list) NoText (declarationsAnswer list work)
+declarations-in-table = InTables.declarations-in
+
+pub check-in-table : (list doc : List ℕ) (l : CheckRoom) → InTable (list ∷ doc ∷ []) (CallCount list doc) NoText (checkAnswer list doc l)
+check-in-table = InTables.check-in
+
+pub canon-in-table : (list doc : List ℕ) (l : Lent) → InTable (list ∷ doc ∷ []) (CanonicalLength list doc) (CanonicalLength list doc) (numbers list doc l)
+canon-in-table = InTables.canon-in
+
+-- ---- a refusal changes no output buffer
+
+pub tokens-refusal-keeps : (text table : List ℕ) → (tokensAnswer text table .code ≡ Code.accepted → ⊥) → tokensTable text table ≡ table
+tokens-refusal-keeps = Lexis.untouched
+
+pub check-refusal-keeps : (list doc : List ℕ) (l : CheckRoom) (calls wires : List ℕ) → (checkAnswer list doc l .code ≡ Code.accepted → ⊥)
+    → (callsAfter (checked list doc l) calls ≡ calls) × (wiresAfter (checked list doc l) wires ≡ wires)
+check-refusal-keeps = Rules.check-keeps
+
+pub canon-refusal-keeps : (list doc : List ℕ) (l : Lent) → (numbers list doc l .code ≡ Code.accepted → ⊥) → output list doc l ≡ l .out
+canon-refusal-keeps = Canonical.refusal-keeps
+
+-- ---- work areas end as zeros, save that refusals 1 and 2 write nothing (`workAfter` of its answer is what each operation leaves in one)
+
+pub declarations-work : (list work : List ℕ) → let r = declarationsAnswer list (length work) in
+    ((IsGuard r → ⊥) → workAfter r work ≡ replicate (length work) 0) × (IsGuard r → workAfter r work ≡ work)
+declarations-work list work = Answers.work-after (declarationsAnswer list (length work)) work
+
+pub check-work : (list doc work₁ work₂ calls wires : List ℕ) → let r = checkAnswer list doc (checkRoom work₁ work₂ calls wires) in
+    ((IsGuard r → ⊥) → (workAfter r work₁ ≡ replicate (length work₁) 0) × (workAfter r work₂ ≡ replicate (length work₂) 0))
+    × (IsGuard r → (workAfter r work₁ ≡ work₁) × (workAfter r work₂ ≡ work₂))
+check-work list doc work₁ work₂ calls wires = Answers.works-after (checkAnswer list doc (checkRoom work₁ work₂ calls wires)) work₁ work₂
+
+pub canon-work : (list doc work₁ work₂ out : List ℕ) → let r = numbers list doc (record { work₁ = length work₁; work₂ = length work₂; out = out }) in
+    ((IsGuard r → ⊥) → (workAfter r work₁ ≡ replicate (length work₁) 0) × (workAfter r work₂ ≡ replicate (length work₂) 0))
+    × (IsGuard r → (workAfter r work₁ ≡ work₁) × (workAfter r work₂ ≡ work₂))
+canon-work list doc work₁ work₂ out = Answers.works-after (numbers list doc (record { work₁ = length work₁; work₂ = length work₂; out = out })) work₁ work₂
+
+-- ==== Demand 2. A graph is accepted exactly when it and its operation list obey the grammar and the rules, given the lent room it asks. The
+-- tables and the counts are the ones defined. Otherwise the answer is the first fault, with its place. The writer's bytes are the
+-- spelling that is laid down, and nothing else.
+
+-- ---- tokens
+
+pub tokens-room : (text table : List ℕ) → length table < tableWords → tokensAnswer text table ≡ answer Code.shortTable 0 0 0
+tokens-room = Answers.tokens-room
+
+pub tokens-long : (text table : List ℕ) → tableWords ≤ length table → maxText < length text → tokensAnswer text table ≡ answer Code.longText 1 maxText 0
+tokens-long = Answers.tokens-long
+
+-- the tokens that the text has are counted, and their records are the table's first words
+pub tokens-accepts : (text table : List ℕ) (ts : List Token) → tableWords ≤ length table → length text ≤ maxText → lex text ≡ accepted ts
+    → (tokensAnswer text table ≡ answer Code.accepted 0 0 (length ts)) × (tokensTable text table ≡ sets table 0 (records ts))
+tokens-accepts = Answers.tokens-accepts
+
+-- code 0 is answered to no other text
+pub tokens-accepted : (text table : List ℕ) → tokensAnswer text table .code ≡ Code.accepted
+    → (tableWords ≤ length table) × ((length text ≤ maxText) × ((ts : List Token) × (lex text ≡ accepted ts)))
+tokens-accepted = Answers.tokens-accepted
+
+-- otherwise the first fault of the bytes
+pub tokens-fault : (text table : List ℕ) (c p : ℕ) → tableWords ≤ length table → length text ≤ maxText → lex text ≡ refused c p → tokensAnswer text table ≡ answer c 1 p 0
+tokens-fault = Answers.tokens-fault
+
+-- words beyond those written keep their contents
+pub tokens-keeps-beyond : (text table : List ℕ) (i : ℕ) → tokensAnswer text table .detail * tokenWords ≤ i → getD (tokensTable text table) i 0 ≡ getD table i 0
+tokens-keeps-beyond = Lexis.kept-beyond
+
+-- tokens stand in the text one after the other, with only white space and comments between them, each the longest; they are of the eight kinds
+pub tokens-placed : (text : List ℕ) (ts : List Token) → lex text ≡ accepted ts → Placed text 0 ts × Kinded ts
+tokens-placed text ts e = (Lexis.placed text ts e, Lexis.kinded text ts e)
+
+-- ---- declarations
+
+pub declarations-room : (list : List ℕ) (work : ℕ) → work < workWords → declarationsAnswer list work ≡ answer Code.shortTable 0 0 0
+declarations-room = Rules.declarations-room
+
+pub declarations-long : (list : List ℕ) (work : ℕ) → workWords ≤ work → maxText < length list → declarationsAnswer list work ≡ answer Code.longText 1 maxText 0
+declarations-long = Rules.declarations-long
+
+-- an accepted list is answered 0, 0, 0 and the number of its operations, and code 0 is answered to no other
+pub declarations-accepts : (list : List ℕ) (work : ℕ) (hs : List Header) → workWords ≤ work → AcceptedList list hs → declarationsAnswer list work ≡ answer Code.accepted 0 0 (length hs)
+declarations-accepts = Rules.declarations-accepts
+
+pub declarations-accepted : (list : List ℕ) (work : ℕ) → declarationsAnswer list work .code ≡ Code.accepted → (hs : List Header) × AcceptedList list hs
+declarations-accepted = Rules.declarations-accepted
+
+-- otherwise the first fault: of the bytes; of the syntax, where the grammar says; of the rules
+module _ (list : List ℕ) (work : ℕ) (r : workWords ≤ work) (l : length list ≤ maxText) where
+  pub declarations-bytes : (c p : ℕ) → lex list ≡ refused c p → declarationsAnswer list work ≡ answer c 1 p 0
+  declarations-bytes c p e = Answers.declarations-refuses list work _ r l (Rules.list-bytes list c p e)
+
+  pub declarations-syntax : (c : ℕ) (ts us : List Token) → lex list ≡ accepted ts → FirstFault (λ b xs. (hs : List Header) × IsList b xs hs) maxBrackets c ts us
+      → declarationsAnswer list work ≡ answer c 1 (placeOf (length list) us) 0
+  declarations-syntax c ts us e f = Answers.declarations-refuses list work _ r l (Rules.list-syntax list c ts us e f)
+
+  pub declarations-rules : (ts : List Token) (hs : List Header) (x : Fault) → lex list ≡ accepted ts → IsList maxBrackets ts hs → IsFirst x (listFaults hs)
+      → declarationsAnswer list work ≡ answer (x .code) 1 (x .at) (x .detail)
+  declarations-rules ts hs x e s f = Answers.declarations-refuses list work _ r l (Rules.list-rules list ts hs x e s f)
+
+-- ---- check
+
+pub check-room : (list doc : List ℕ) (l : CheckRoom) → checkServes l ≡ false → checkAnswer list doc l ≡ answer Code.shortTable 0 0 0
+check-room = Rules.check-room
+
+pub check-long : (list doc : List ℕ) (l : CheckRoom) → checkServes l ≡ true → maxText < length list → checkAnswer list doc l ≡ answer Code.longText 1 maxText 0
+check-long = Rules.check-long
+
+pub check-long-document : (list doc : List ℕ) (l : CheckRoom) → checkServes l ≡ true → length list ≤ maxText → maxText < length doc → checkAnswer list doc l ≡ answer Code.longText 2 maxText 0
+check-long-document = Rules.check-long-document
+
+-- a list that declarations refuses, check refuses with the same four numbers
+pub check-list : (list doc : List ℕ) (l : CheckRoom) (work : ℕ) → checkServes l ≡ true → workWords ≤ work → length list ≤ maxText → length doc ≤ maxText
+    → (declarationsAnswer list work .code ≡ Code.accepted → ⊥) → checkAnswer list doc l ≡ declarationsAnswer list work
+check-list = Answers.check-list
+
+module _ (list doc : List ℕ) (l : CheckRoom) (hs : List Header) (r : checkServes l ≡ true) (a : AcceptedList list hs) where
+  -- an accepted document is answered 0, 0, 0 and the number of its calls
+  pub check-accepts : (d : Document) → AcceptedDocument hs doc d → checkAnswer list doc l ≡ answer Code.accepted 0 0 (length (d .calls))
+  check-accepts d b = Rules.check-accepts list doc l hs d r a b
+
+  -- its calls and wires are the first words of the tables, and words beyond them keep their contents
+  pub check-writes : (d : Document) → AcceptedDocument hs doc d → (calls wires : List ℕ)
+      → (callsAfter (checked list doc l) calls ≡ sets calls 0 (callTable hs d)) × (wiresAfter (checked list doc l) wires ≡ sets wires 0 (wireTable d))
+  check-writes d b calls wires = Rules.check-writes list doc l hs d r a b calls wires
+
+  -- otherwise the first fault of the document: of the bytes; of the syntax; of the rules
+  pub check-bytes : (c p : ℕ) → length doc ≤ maxText → lex doc ≡ refused c p → checkAnswer list doc l ≡ answer c 2 p 0
+  check-bytes c p m e = Rules.check-refuses list doc l _ r (a .short) m (Rules.document-bytes list doc hs a c p e)
+
+  pub check-syntax : (c : ℕ) (ts us : List Token) → length doc ≤ maxText → lex doc ≡ accepted ts → FirstFault (λ b xs. (d : Document) × IsDocument b xs d) maxBrackets c ts us
+      → checkAnswer list doc l ≡ answer c 2 (placeOf (length doc) us) 0
+  check-syntax c ts us m e f = Rules.check-refuses list doc l _ r (a .short) m (Rules.document-syntax list doc hs a c ts us e f)
+
+  pub check-rules : (ts : List Token) (d : Document) (x : Fault) → length doc ≤ maxText → lex doc ≡ accepted ts → IsDocument maxBrackets ts d → IsFirst x (documentFaults hs d)
+      → checkAnswer list doc l ≡ answer (x .code) 2 (x .at) (x .detail)
+  check-rules ts d x m e s f = Rules.check-refuses list doc l _ r (a .short) m (Rules.document-rules list doc hs a ts d x e s f)
+
+-- code 0 is answered to no other
+pub check-accepted : (list doc : List ℕ) (l : CheckRoom) → checkAnswer list doc l .code ≡ Code.accepted
+    → (hs : List Header) × ((d : Document) × (AcceptedList list hs × AcceptedDocument hs doc d))
+check-accepted = Rules.check-accepted
+
+-- the call that a wire names comes before the call that uses the identifier, and assigns it
+pub wire-below : (hs : List Header) (doc : List ℕ) (d : Document) → AcceptedDocument hs doc d → (before : List Call) (c : Call) (after : List Call) (xs : List Token) (t : Token) (ys : List Token)
+    → d .calls ≡ before ++ (c ∷ after) → used c ≡ xs ++ (t ∷ ys) → AssignedBy (d .calls) (assigner (d .calls) t) (length before) t
+wire-below = Rules.wire-below
+
+-- ---- canon
+
+pub canon-room : (list doc : List ℕ) (l : Lent) → canonServes (roomOf l) ≡ false → numbers list doc l ≡ answer Code.shortTable 0 0 0
+canon-room = Answers.canon-room
+
+pub canon-long : (list doc : List ℕ) (l : Lent) → canonServes (roomOf l) ≡ true → maxText < length list → numbers list doc l ≡ answer Code.longText 1 maxText 0
+canon-long = Answers.canon-long
+
+pub canon-long-document : (list doc : List ℕ) (l : Lent) → canonServes (roomOf l) ≡ true → length list ≤ maxText → maxText < length doc → numbers list doc l ≡ answer Code.longText 2 maxText 0
+canon-long-document = Answers.canon-long-document
+
+-- a list that declarations refuses, and what check refuses, canon refuses with the same four numbers
+pub canon-list : (list doc : List ℕ) (l : Lent) (work : ℕ) → canonServes (roomOf l) ≡ true → workWords ≤ work → length list ≤ maxText → length doc ≤ maxText
+    → (declarationsAnswer list work .code ≡ Code.accepted → ⊥) → numbers list doc l ≡ declarationsAnswer list work
+canon-list = Answers.canon-list
+
+pub canon-refuses-as-check : (list doc : List ℕ) (l : Lent) (k : CheckRoom) → canonServes (roomOf l) ≡ true → checkServes k ≡ true
+    → (checkAnswer list doc k .code ≡ Code.accepted → ⊥) → numbers list doc l ≡ checkAnswer list doc k
+canon-refuses-as-check = Canonical.refuses-as-check
+
+module _ (list doc : List ℕ) (hs : List Header) (p : Plan) (a : AcceptedList list hs) (h : HasPlan hs doc p) where
+  -- what check accepts, canon refuses only with 25, where the canonical text does not keep the limits,
+  pub canon-over-limits : (l : Lent) → workWords ≤ l .work₁ → workWords ≤ l .work₂ → (Keeps hs p → ⊥) → numbers list doc l ≡ answer Writing.overLimits 0 0 0
+  canon-over-limits l w₁ w₂ n = Canonical.over-the-limits list doc hs p a h l w₁ w₂ n
+
+  -- and with 26 and its length, where it keeps them and the output is shorter than it
+  pub canon-over-output : (l : Lent) → workWords ≤ l .work₁ → workWords ≤ l .work₂ → Keeps hs p → length (l .out) < length (canonical hs p)
+      → numbers list doc l ≡ answer Writing.shortOutput 0 0 (length (canonical hs p))
+  canon-over-output l w₁ w₂ k o = Canonical.over-the-output list doc hs p a h l w₁ w₂ k o
+
+  -- the pieces that 25 counts are the tokens of the canonical text: as many, if they are no more than a text may have, else it has too many
+  pub canonical-tokens : (length (documentPieces hs p) ≤ maxTokens → (ts : List Token) × ((lex (canonical hs p) ≡ accepted ts) × (length ts ≡ length (documentPieces hs p))))
+      × (maxTokens < length (documentPieces hs p) → (q : ℕ) × (lex (canonical hs p) ≡ refused Code.tooMany q))
+  canonical-tokens = Answers.canonical-tokens list doc hs p a h
+
+-- code 0 is answered only to an accepted document under an accepted list whose canonical text keeps the limits and fits the output
+pub canon-accepted : (list doc : List ℕ) (l : Lent) → numbers list doc l .code ≡ Code.accepted
+    → (hs : List Header) × ((p : Plan) × (AcceptedList list hs × (HasPlan hs doc p × (Keeps hs p × (length (canonical hs p) ≤ length (l .out))))))
+canon-accepted = Canonical.canon-accepted
+
+-- ==== Demand 3. Fix any accepted operation list, and take documents accepted under it whose canonical texts keep the limits, and output
+-- buffers that hold them.
+
+-- an accepted document has exactly one plan
+pub has-plan : (list doc : List ℕ) (hs : List Header) (d : Document) → AcceptedList list hs → AcceptedDocument hs doc d → (p : Plan) × HasPlan hs doc p
+has-plan = Canonical.has-plan
+
+pub one-plan : (hs : List Header) (doc : List ℕ) (p q : Plan) → HasPlan hs doc p → HasPlan hs doc q → p ≡ q
+one-plan = Canonical.one-plan
+
+module _ (list : List ℕ) (hs : List Header) (fixed : AcceptedList list hs) where
+  module _ (doc : List ℕ) (p : Plan) (h : HasPlan hs doc p) (k : Keeps hs p) where
+    -- The writer, lent the room it asks and called on each, writes its canonical text and answers 0, 0, 0 and that text's length.
+    pub canon-answers : (l : Lent) → Serves l (canonical hs p) → numbers list doc l ≡ answer Code.accepted 0 0 (length (canonical hs p))
+    canon-answers = Canonical.canon-answers list hs fixed doc p h k
+
+    pub canon-writes : (l : Lent) → Serves l (canonical hs p) → output list doc l ≡ sets (l .out) 0 (canonical hs p)
+    canon-writes = Canonical.canon-writes list hs fixed doc p h k
+
+    pub canon-bytes : (l : Lent) → Serves l (canonical hs p) → bytesWritten list doc l ≡ canonical hs p
+    canon-bytes = Canonical.canon-bytes list hs fixed doc p h k
+
+  -- The two plans are equal exactly when the two lengths and all the bytes written are equal.
+  pub equal-plans : (doc₁ doc₂ : List ℕ) (p q : Plan) (h : HasPlan hs doc₁ p) (g : HasPlan hs doc₂ q) → Keeps hs p → Keeps hs q → (l m : Lent) → Serves l (canonical hs p) → Serves m (canonical hs q)
+      → (p ≡ q) ↔ ((numbers list doc₁ l .detail ≡ numbers list doc₂ m .detail) × (bytesWritten list doc₁ l ≡ bytesWritten list doc₂ m))
+  equal-plans = Canonical.equal-plans list hs fixed
+
+  -- Now take either canonical text as a document under the same list. It is accepted. Its plan equals the plan of the document that it came from.
+  pub again-accepted : (doc : List ℕ) (p : Plan) → HasPlan hs doc p → Keeps hs p → HasPlan hs (canonical hs p) p
+  again-accepted = Canonical.again-accepted list hs fixed
+
+  -- The writer, called on it in the same way, writes the same bytes and answers the same four numbers.
+  pub again-written : (doc : List ℕ) (p : Plan) (h : HasPlan hs doc p) (k : Keeps hs p) (l m : Lent) → Serves l (canonical hs p) → Serves m (canonical hs p)
+      → (numbers list (canonical hs p) m ≡ numbers list doc l) × (bytesWritten list (canonical hs p) m ≡ bytesWritten list doc l)
+  again-written = Canonical.again-written list hs fixed
