@@ -109,7 +109,7 @@ fn check_case(list: &[u8], document: &[u8]) {
     ));
 }
 
-// A list up to the blank before `|`, and a document from the blank after it on.
+// A list before `|`, and a document behind it and one blank.
 fn pair_case(text: &[u8]) {
     let bar = end_of(text, 0, b'|');
     if bar + 2 <= text.len() {
