@@ -61,15 +61,19 @@ static int takes_null(void)
                               NULL, 0), NNEF_OUT_TOO_SHORT, 0, 0, 88);
 }
 
-/* A list and a document may be one buffer, or overlap: the bytes of the list are read as a document, and the other way round. */
-static int takes_one_buffer(void)
+/* A list and a document may overlap, here in a comment that ends the one and begins the other, or be one buffer. */
+static int takes_overlap(void)
 {
-    const uint8_t *list = (const uint8_t *)LIST;
-    const size_t list_len = strlen(LIST), work_len = NNEF_WORK_WORDS;
-    return answers(nnef_check(list, list_len, list, list_len, list_work, work_len, document_work, work_len,
-                              calls, NNEF_CALL_WORDS, wires, NNEF_WIRE_WORDS), NNEF_SYNTAX, 2, 0, 0)
-        && answers(nnef_canon(list, list_len, list + 9, list_len - 9, list_work, work_len, document_work, work_len,
-                              out, NNEF_TEXT_BYTES), NNEF_SYNTAX, 2, 0, 0);
+    static const char SHARED[] = " # of both\n";
+    static char both[sizeof LIST + sizeof SHARED + sizeof DOCUMENT];
+    const uint8_t *list = (const uint8_t *)both, *document = list + strlen(LIST);
+    const size_t list_len = strlen(LIST) + strlen(SHARED), document_len = strlen(SHARED) + strlen(DOCUMENT);
+    const size_t work_len = NNEF_WORK_WORDS;
+    strcat(strcat(strcpy(both, LIST), SHARED), DOCUMENT);
+    return answers(nnef_canon(list, list_len, document, document_len, list_work, work_len, document_work, work_len,
+                              out, NNEF_TEXT_BYTES), NNEF_ACCEPTED, 0, 0, 88)
+        && answers(nnef_check(list, list_len, list, list_len, list_work, work_len, document_work, work_len,
+                              calls, NNEF_CALL_WORDS, wires, NNEF_WIRE_WORDS), NNEF_SYNTAX, 2, 0, 0);
 }
 
 int main(void)
@@ -90,7 +94,7 @@ int main(void)
         && answers(canon_of(DOCUMENT, NNEF_WORK_WORDS, NNEF_TEXT_BYTES), NNEF_ACCEPTED, 0, 0, 88)
         && memcmp(out, CANONICAL, sizeof CANONICAL) == 0
         && takes_null()
-        && takes_one_buffer();
+        && takes_overlap();
     puts(good ? "from C: as the header says" : "from C: WRONG");
     return good ? 0 : 1;
 }
