@@ -7,13 +7,8 @@ mod inputs;
 mod timing;
 
 use inputs::Pair;
+use library::{CALL_WORDS, TABLE_WORDS, TEXT_BYTES, WIRE_WORDS, WORK_WORDS};
 use timing::Sides;
-
-const TABLE_WORDS: usize = 12_288;
-const WORK_WORDS: usize = 16_384;
-const CALL_WORDS: usize = 1_536;
-const WIRE_WORDS: usize = 2_048;
-const OUT_BYTES: usize = 16_384;
 
 /// Rounds that the medians are taken over, of `tokens`, and of `check` and `canon`.
 const TOKENS_ROUNDS: usize = 2_001;
@@ -75,7 +70,7 @@ impl CanonLent {
         CanonLent {
             list_work: vec![7; WORK_WORDS],
             document_work: vec![7; WORK_WORDS],
-            out: vec![7; OUT_BYTES],
+            out: vec![7; TEXT_BYTES],
         }
     }
 }

@@ -2,13 +2,20 @@
  * nnef.h - reads flat NNEF text.
  *
  * Link with libnnef.a, which `rt staticlib nnef` in the repository's root
- * writes to target/staticlib.
+ * writes to target/staticlib, for x86-64. Of the C library it asks `memset`
+ * alone.
  *
  * The library keeps no state and allocates nothing: it works in the buffers
- * that the caller lends it and on the stack, of which a call takes some 50 KB.
- * Any number of threads may call it at the same time, each with a table of
- * its own. Every call ends, whatever bytes it is given, and touches nothing
- * beyond the lengths it is given.
+ * that the caller lends it and on the stack. Any number of threads may call it
+ * at the same time, each with tables, work areas and outputs of its own. Every
+ * call ends, whatever bytes it is given, and touches nothing beyond the
+ * lengths it is given.
+ *
+ * Every buffer is a pointer and a length, in bytes for texts and outputs, in
+ * words of 32 bits for tables and work areas. With length 0 the pointer may be
+ * NULL; nothing is read or written through it. Texts are only read, and a list
+ * and a document may overlap or be one buffer. Tables, work areas and outputs
+ * are written to, and none of them may overlap any other buffer of the call.
  */
 #ifndef NNEF_H
 #define NNEF_H
@@ -20,35 +27,61 @@
 extern "C" {
 #endif
 
-/* Sizes. */
-#define NNEF_TEXT_BYTES 16384  /* the longest text */
-#define NNEF_TOKENS 4096       /* the most tokens in a text */
-#define NNEF_TOKEN_WORDS 3     /* words that a token takes in the table */
-#define NNEF_TABLE_WORDS 12288 /* words that a token table has at least */
-#define NNEF_NAME_BYTES 64     /* the longest name */
-#define NNEF_STRING_BYTES 128  /* the longest string, quotes not counted */
-#define NNEF_NUMBER_BYTES 64   /* the longest number */
-#define NNEF_WORK_WORDS 16384  /* words that a work area has at least */
-#define NNEF_CALL_WORDS 1536   /* words that a call table has at least */
-#define NNEF_WIRE_WORDS 2048   /* words that a wire table has at least */
+/* Sizes: the most that there may be. */
+#define NNEF_TEXT_BYTES 16384 /* bytes of a text */
+#define NNEF_TOKENS 4096      /* tokens of a text */
+#define NNEF_NAME_BYTES 64    /* bytes of a name */
+#define NNEF_STRING_BYTES 128 /* bytes of a string between its quotes */
+#define NNEF_NUMBER_BYTES 64  /* bytes of a number */
+#define NNEF_BRACKETS 8       /* brackets of arrays, tuples and types open at once */
+#define NNEF_OPERATIONS 128   /* operations of a list */
+#define NNEF_PARAMETERS 32    /* parameters of an operation */
+#define NNEF_RESULTS 8        /* results of an operation */
+#define NNEF_INPUTS 32        /* inputs of a graph */
+#define NNEF_OUTPUTS 32       /* outputs of a graph */
+#define NNEF_CALLS 384        /* calls of a graph */
+#define NNEF_ASSIGNED 1024    /* places of a graph that assign an identifier */
+#define NNEF_USES 1024        /* places of a graph that use an identifier */
+
+/* Words of one record. */
+#define NNEF_TOKEN_RECORD_WORDS 3
+#define NNEF_CALL_RECORD_WORDS 4
+#define NNEF_WIRE_RECORD_WORDS 2
+
+/* Words that are to be lent, at least. */
+#define NNEF_TABLE_WORDS 12288 /* of a token table */
+#define NNEF_WORK_WORDS 16384  /* of a work area */
+#define NNEF_CALL_WORDS 1536   /* of a call table */
+#define NNEF_WIRE_WORDS 2048   /* of a wire table */
+
+/*
+ * Bytes of stack that a call takes at most: measured on the longest and deepest
+ * texts, and rounded up.
+ */
+#define NNEF_TOKENS_STACK 53248
+#define NNEF_DECLARATIONS_STACK 8192
+#define NNEF_CHECK_STACK 8192
+#define NNEF_CANON_STACK 8192
 
 /* What an operation answers with. */
 typedef struct nnef_answer {
-    uint32_t code;     /* one of enum nnef_code; 0 when the text is accepted */
+    uint32_t code;     /* one of enum nnef_code; 0 is acceptance */
     uint32_t text;     /* the text with the fault: 1 the list or the only one, 2 the document, 0 none */
     uint32_t position; /* the fault's place in that text, in bytes from 0 */
-    uint32_t detail;   /* after acceptance a count; with code 19 a parameter's index; with code 26 a length; else 0 */
+    uint32_t detail;   /* after acceptance a count; with code 19 a parameter's index, from 0; with code 26 a length; else 0 */
 } nnef_answer;
 
 /*
- * Codes. When a text has several faults, the answer gives the one with the
- * smallest position, and of those at one position the one with the smallest
- * code. NNEF_TABLE_TOO_SHORT comes before all others, then NNEF_TEXT_TOO_LONG;
- * NNEF_CANON_TOO_LONG comes after those of both texts, NNEF_OUT_TOO_SHORT last.
+ * Codes. Of several faults the stage decides first. The stages are, in this
+ * order: code 1; code 2, of the list and then of the document; the list's bytes
+ * (3 to 8), its syntax (9, 10) and its rules (12 to 14); the document's bytes
+ * (3 to 8), its syntax (9, 10) and its rules (11 to 13, 15 to 24); code 25; code
+ * 26. In one stage the fault with the smallest position is given, and of those
+ * at one position the one with the smallest code.
  */
 enum nnef_code {
-    NNEF_ACCEPTED = 0,        /* the text is good; position is 0 */
-    NNEF_TABLE_TOO_SHORT = 1, /* the lent table has too few words; text and position are 0 */
+    NNEF_ACCEPTED = 0,        /* no fault; text and position are 0 */
+    NNEF_LENT_TOO_SHORT = 1,  /* a lent table or work area has too few words; text and position are 0 */
     NNEF_TEXT_TOO_LONG = 2,   /* the text has more than 16384 bytes; position is 16384 */
     NNEF_NO_TOKEN = 3,        /* the byte at position begins no token */
     NNEF_NUMBER_MISSPELT = 4, /* the number at position runs on into a letter, '_' or '.' */
@@ -66,7 +99,7 @@ enum nnef_code {
     NNEF_MISPLACED = 16,      /* a positional argument may not stand there */
     NNEF_MISNAMED = 17,       /* a named argument is unknown, or its parameter is already bound */
     NNEF_MISFIT = 18,         /* an argument does not fit its parameter's type */
-    NNEF_MISSING = 19,        /* a parameter without default is not bound; detail is its index */
+    NNEF_MISSING = 19,        /* a parameter without default is not bound; detail is the first such index */
     NNEF_UNMATCHED = 20,      /* a left side does not match the operation's results */
     NNEF_AGAIN = 21,          /* an identifier is assigned again */
     NNEF_UNASSIGNED = 22,     /* an identifier is used that no earlier call assigns */
@@ -97,10 +130,10 @@ enum nnef_kind {
 };
 
 /*
- * Splits a text into tokens.
+ * Splits a text into tokens. Codes 0 to 8.
  *
- * `text` points to text_len bytes, `table` to table_len words; they must not
- * overlap. A text of length 0 is accepted.
+ * Code 1: `table` has fewer than NNEF_TABLE_WORDS words. It may not overlap the
+ * text. A text of length 0 is accepted.
  *
  * When the text is accepted, detail is the number of its tokens, and the token
  * at place i, counted from 0, is in table[3*i] (its kind), table[3*i + 1] (the
@@ -112,26 +145,34 @@ nnef_answer nnef_tokens(const uint8_t *text, size_t text_len,
                         uint32_t *table, size_t table_len);
 
 /*
- * Checks an operation list. `work` is a work area of at least NNEF_WORK_WORDS
- * words. When the list is accepted, detail is the number of its operations.
- * After any answer but NNEF_TABLE_TOO_SHORT and NNEF_TEXT_TOO_LONG the work
- * area is zero.
+ * Checks an operation list. Codes 0 to 10 and 12 to 14.
+ *
+ * Code 1: the work area `work` has fewer than NNEF_WORK_WORDS words. It may not
+ * overlap the list. A list of length 0 is accepted.
+ *
+ * When the list is accepted, detail is the number of its operations. After any
+ * answer but codes 1 and 2, which write nothing, the work area is zero over its
+ * whole length.
  */
 nnef_answer nnef_declarations(const uint8_t *list, size_t list_len,
                               uint32_t *work, size_t work_len);
 
 /*
- * Checks a document against an operation list. The two work areas have at
- * least NNEF_WORK_WORDS words each, `calls` NNEF_CALL_WORDS, `wires`
- * NNEF_WIRE_WORDS; none may overlap.
+ * Checks a document against an operation list. Codes 0 to 24.
  *
- * When the document is accepted, detail is the number of its calls; call i is
- * in calls[4*i] (its operation's index in the list), calls[4*i + 1] (the place
- * of the operation's name in the document), calls[4*i + 2] (the identifiers it
- * assigns) and calls[4*i + 3] (those it uses); use j, in the order of the
- * document, is in wires[2*j] (its place) and wires[2*j + 1] (the call that
- * assigns it, always an earlier one). The words behind these keep what they
- * held. When anything is refused, both tables keep what they held.
+ * Code 1: `list_work` or `document_work` has fewer than NNEF_WORK_WORDS words,
+ * `calls` fewer than NNEF_CALL_WORDS, or `wires` fewer than NNEF_WIRE_WORDS.
+ * None of these four may overlap another of them, the list or the document.
+ *
+ * When the document is accepted, detail is the number of its calls; call i,
+ * counted from 0, is in calls[4*i] (its operation's index in the list, from 0),
+ * calls[4*i + 1] (the place of the operation's name in the document),
+ * calls[4*i + 2] (the identifiers it assigns) and calls[4*i + 3] (those it
+ * uses); use j, in the order of the document, is in wires[2*j] (its place) and
+ * wires[2*j + 1] (the index of the call that assigns it, always an earlier
+ * one). The words behind these keep what they held. When anything is refused,
+ * both tables keep what they held. After any answer but codes 1 and 2, which
+ * write nothing, the work areas are zero over their whole length.
  */
 nnef_answer nnef_check(const uint8_t *list, size_t list_len,
                        const uint8_t *document, size_t document_len,
@@ -141,16 +182,20 @@ nnef_answer nnef_check(const uint8_t *list, size_t list_len,
                        uint32_t *wires, size_t wires_len);
 
 /*
- * Writes the canonical text of a document under an operation list. The two
- * work areas have at least NNEF_WORK_WORDS words each, `out` has any number of
- * bytes, and NNEF_TEXT_BYTES are always enough; none may overlap.
+ * Writes the canonical text of a document under an operation list. Codes 0 to
+ * 26.
+ *
+ * Code 1: `list_work` or `document_work` has fewer than NNEF_WORK_WORDS words.
+ * The output `out` may have any length, NNEF_TEXT_BYTES are always enough, and
+ * one that is too short is code 26. None of these three may overlap another of
+ * them, the list or the document.
  *
  * When the document is accepted, detail is the number of bytes written, which
  * are the first of `out`; those behind them keep what they held. When anything
  * is refused, the whole output keeps what it held. Under one list, two documents
  * have the same canonical text exactly when they say the same, defaults filled
- * in; a canonical text is its own. After any answer but NNEF_TABLE_TOO_SHORT
- * and NNEF_TEXT_TOO_LONG the work areas are zero.
+ * in; a canonical text is its own. After any answer but codes 1 and 2, which
+ * write nothing, the work areas are zero over their whole length.
  */
 nnef_answer nnef_canon(const uint8_t *list, size_t list_len,
                        const uint8_t *document, size_t document_len,

@@ -1,6 +1,80 @@
 //! The library for Rust programs: take this file in as a module and link with
 //! libnnef.a. What the operations do and what the numbers mean is said in
-//! `nnef.h`.
+//! `nnef.h`; the names are the header's without `NNEF_`.
+
+#![allow(dead_code)]
+
+// Sizes: the most that there may be.
+pub const TEXT_BYTES: usize = 16_384;
+pub const TOKENS: usize = 4_096;
+pub const NAME_BYTES: usize = 64;
+pub const STRING_BYTES: usize = 128;
+pub const NUMBER_BYTES: usize = 64;
+pub const BRACKETS: usize = 8;
+pub const OPERATIONS: usize = 128;
+pub const PARAMETERS: usize = 32;
+pub const RESULTS: usize = 8;
+pub const INPUTS: usize = 32;
+pub const OUTPUTS: usize = 32;
+pub const CALLS: usize = 384;
+pub const ASSIGNED: usize = 1_024;
+pub const USES: usize = 1_024;
+
+// Words of one record.
+pub const TOKEN_RECORD_WORDS: usize = 3;
+pub const CALL_RECORD_WORDS: usize = 4;
+pub const WIRE_RECORD_WORDS: usize = 2;
+
+// Words that are to be lent, at least.
+pub const TABLE_WORDS: usize = 12_288;
+pub const WORK_WORDS: usize = 16_384;
+pub const CALL_WORDS: usize = 1_536;
+pub const WIRE_WORDS: usize = 2_048;
+
+// Bytes of stack that a call takes at most.
+pub const TOKENS_STACK: usize = 53_248;
+pub const DECLARATIONS_STACK: usize = 8_192;
+pub const CHECK_STACK: usize = 8_192;
+pub const CANON_STACK: usize = 8_192;
+
+// Codes.
+pub const ACCEPTED: u32 = 0;
+pub const LENT_TOO_SHORT: u32 = 1;
+pub const TEXT_TOO_LONG: u32 = 2;
+pub const NO_TOKEN: u32 = 3;
+pub const NUMBER_MISSPELT: u32 = 4;
+pub const BAD_STRING: u32 = 5;
+pub const TOKEN_TOO_LONG: u32 = 6;
+pub const OUT_OF_RANGE: u32 = 7;
+pub const TOO_MANY_TOKENS: u32 = 8;
+pub const SYNTAX: u32 = 9;
+pub const TOO_DEEP: u32 = 10;
+pub const VERSION: u32 = 11;
+pub const TOO_MANY: u32 = 12;
+pub const REPEATED: u32 = 13;
+pub const BAD_DEFAULT: u32 = 14;
+pub const UNDECLARED: u32 = 15;
+pub const MISPLACED: u32 = 16;
+pub const MISNAMED: u32 = 17;
+pub const MISFIT: u32 = 18;
+pub const MISSING: u32 = 19;
+pub const UNMATCHED: u32 = 20;
+pub const AGAIN: u32 = 21;
+pub const UNASSIGNED: u32 = 22;
+pub const MISFED: u32 = 23;
+pub const UNMADE: u32 = 24;
+pub const CANON_TOO_LONG: u32 = 25;
+pub const OUT_TOO_SHORT: u32 = 26;
+
+// Kinds of token.
+pub const NAME: u32 = 1;
+pub const WHOLE: u32 = 2;
+pub const REAL: u32 = 3;
+pub const STRING: u32 = 4;
+pub const LOGICAL: u32 = 5;
+pub const KEYWORD: u32 = 6;
+pub const OPERATOR: u32 = 7;
+pub const SYNTACTIC: u32 = 8;
 
 /// The four numbers that an operation answers with.
 #[repr(C)]
@@ -19,7 +93,7 @@ impl Answer {
 }
 
 #[link(name = "nnef", kind = "static")]
-extern "C" {
+unsafe extern "C" {
     fn nnef_tokens(text: *const u8, text_len: usize, table: *mut u32, table_len: usize) -> Answer;
     fn nnef_declarations(
         list: *const u8,

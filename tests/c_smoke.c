@@ -16,6 +16,7 @@ static const char CANONICAL[] =
 
 static uint32_t table[NNEF_TABLE_WORDS];
 static uint32_t list_work[NNEF_WORK_WORDS], document_work[NNEF_WORK_WORDS];
+static uint32_t calls[NNEF_CALL_WORDS], wires[NNEF_WIRE_WORDS];
 static uint8_t out[NNEF_TEXT_BYTES];
 
 static nnef_answer tokens_of(const char *text, size_t table_len)
@@ -36,8 +37,43 @@ static int answers(nnef_answer a, uint32_t code, uint32_t text, uint32_t positio
 
 static int holds(size_t token, uint32_t kind, uint32_t start, uint32_t end)
 {
-    const uint32_t *record = table + NNEF_TOKEN_WORDS * token;
+    const uint32_t *record = table + NNEF_TOKEN_RECORD_WORDS * token;
     return record[0] == kind && record[1] == start && record[2] == end;
+}
+
+/* Each buffer of length 0 may be NULL: an empty text is read, a table or a work area is too short, an output gets nothing. */
+static int takes_null(void)
+{
+    const uint8_t *list = (const uint8_t *)LIST, *document = (const uint8_t *)DOCUMENT;
+    const size_t list_len = strlen(LIST), document_len = strlen(DOCUMENT);
+    const size_t work_len = NNEF_WORK_WORDS;
+    return answers(nnef_tokens(NULL, 0, table, NNEF_TABLE_WORDS), NNEF_ACCEPTED, 0, 0, 0)
+        && answers(nnef_tokens(NULL, 0, NULL, 0), NNEF_LENT_TOO_SHORT, 0, 0, 0)
+        && answers(nnef_declarations(NULL, 0, list_work, work_len), NNEF_ACCEPTED, 0, 0, 0)
+        && answers(nnef_declarations(list, list_len, NULL, 0), NNEF_LENT_TOO_SHORT, 0, 0, 0)
+        && answers(nnef_check(NULL, 0, NULL, 0, list_work, work_len, document_work, work_len,
+                              calls, NNEF_CALL_WORDS, wires, NNEF_WIRE_WORDS), NNEF_SYNTAX, 2, 0, 0)
+        && answers(nnef_check(NULL, 0, NULL, 0, NULL, 0, NULL, 0, NULL, 0, NULL, 0), NNEF_LENT_TOO_SHORT, 0, 0, 0)
+        && answers(nnef_check(list, list_len, document, document_len, list_work, work_len, document_work, work_len,
+                              calls, NNEF_CALL_WORDS, NULL, 0), NNEF_LENT_TOO_SHORT, 0, 0, 0)
+        && answers(nnef_canon(NULL, 0, NULL, 0, list_work, work_len, document_work, work_len, NULL, 0), NNEF_SYNTAX, 2, 0, 0)
+        && answers(nnef_canon(list, list_len, document, document_len, list_work, work_len, document_work, work_len,
+                              NULL, 0), NNEF_OUT_TOO_SHORT, 0, 0, 88);
+}
+
+/* A list and a document may overlap, here in a comment that ends the one and begins the other, or be one buffer. */
+static int takes_overlap(void)
+{
+    static const char SHARED[] = " # of both\n";
+    static char both[sizeof LIST + sizeof SHARED + sizeof DOCUMENT];
+    const uint8_t *list = (const uint8_t *)both, *document = list + strlen(LIST);
+    const size_t list_len = strlen(LIST) + strlen(SHARED), document_len = strlen(SHARED) + strlen(DOCUMENT);
+    const size_t work_len = NNEF_WORK_WORDS;
+    strcat(strcat(strcpy(both, LIST), SHARED), DOCUMENT);
+    return answers(nnef_canon(list, list_len, document, document_len, list_work, work_len, document_work, work_len,
+                              out, NNEF_TEXT_BYTES), NNEF_ACCEPTED, 0, 0, 88)
+        && answers(nnef_check(list, list_len, list, list_len, list_work, work_len, document_work, work_len,
+                              calls, NNEF_CALL_WORDS, wires, NNEF_WIRE_WORDS), NNEF_SYNTAX, 2, 0, 0);
 }
 
 int main(void)
@@ -50,13 +86,15 @@ int main(void)
         && holds(11, 0, 0, 0)
         && answers(tokens_of("", NNEF_TABLE_WORDS), NNEF_ACCEPTED, 0, 0, 0)
         && answers(tokens_of("a = 1.", NNEF_TABLE_WORDS), NNEF_NUMBER_MISSPELT, 1, 4, 0)
-        && answers(tokens_of(TEXT, NNEF_TABLE_WORDS - 1), NNEF_TABLE_TOO_SHORT, 0, 0, 0)
-        && answers(canon_of(DOCUMENT, NNEF_WORK_WORDS - 1, NNEF_TEXT_BYTES), NNEF_TABLE_TOO_SHORT, 0, 0, 0)
+        && answers(tokens_of(TEXT, NNEF_TABLE_WORDS - 1), NNEF_LENT_TOO_SHORT, 0, 0, 0)
+        && answers(canon_of(DOCUMENT, NNEF_WORK_WORDS - 1, NNEF_TEXT_BYTES), NNEF_LENT_TOO_SHORT, 0, 0, 0)
         && answers(canon_of("version 1.0", NNEF_WORK_WORDS, NNEF_TEXT_BYTES), NNEF_SYNTAX, 2, 11, 0)
         && answers(canon_of(DOCUMENT, NNEF_WORK_WORDS, 87), NNEF_OUT_TOO_SHORT, 0, 0, 88)
         && out[0] == 0
         && answers(canon_of(DOCUMENT, NNEF_WORK_WORDS, NNEF_TEXT_BYTES), NNEF_ACCEPTED, 0, 0, 88)
-        && memcmp(out, CANONICAL, sizeof CANONICAL) == 0;
+        && memcmp(out, CANONICAL, sizeof CANONICAL) == 0
+        && takes_null()
+        && takes_overlap();
     puts(good ? "from C: as the header says" : "from C: WRONG");
     return good ? 0 : 1;
 }

@@ -1,7 +1,7 @@
 //! The operation `canon`: written cases, then random pairs with their canonical
 //! texts read again, then documents that say the same or something else.
 
-mod cases;
+pub mod cases;
 
 use crate::lent::{byte_pattern, lent, pattern, LentText, GUARD};
 use crate::processors::on_all_processors;

@@ -1,6 +1,6 @@
 //! The operations `declarations` and `check`: written cases, then random pairs.
 
-mod cases;
+pub mod cases;
 
 use crate::lent::{lent, pattern, LentText, GUARD};
 use crate::program::{codes_met, shown};

@@ -1,4 +1,5 @@
-//! Compares the library with the reference and with written answers.
+//! Compares the library with the reference and with written answers, and
+//! measures its stack.
 //!
 //! Arguments: the number of random texts, and of random pairs of texts
 //! (100000; of families of pairs a tenth), and the seed (1).
@@ -11,6 +12,7 @@ mod check;
 mod lent;
 mod processors;
 mod program;
+mod stack;
 mod tokens;
 mod written;
 
@@ -24,7 +26,8 @@ fn main() -> ExitCode {
     let tokens = tokens::run(count, seed);
     let check = check::run(count, seed);
     let canon = canon::run(count, seed);
-    if tokens && check && canon {
+    let stack = stack::run(seed);
+    if tokens && check && canon && stack {
         ExitCode::SUCCESS
     } else {
         ExitCode::FAILURE

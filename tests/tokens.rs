@@ -1,6 +1,6 @@
 //! The operation `tokens`: written cases, then the library against the reference.
 
-mod cases;
+pub mod cases;
 mod inputs;
 
 use crate::lent::{lent, pattern, LentText, GUARD};

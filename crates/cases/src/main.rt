@@ -1,5 +1,6 @@
 // Runs cases and prints what each answers. A case is a line of standard input: a letter, a blank, and a text. T: the tokens of the text,
-// with the words of its table. L, D: the bytes and the syntax of an operation list, or of a document, with the number of tokens.
+// with the words of its table. L, D: the bytes and the syntax of an operation list, or of a document, with the number of tokens. C: `check` of
+// a list and a document, with ` | ` between them. N: `check` of a document that is made here, with so many calls.
 use lexis::Counted;
 use lexis::code::Code;
 use lexis::limits::Limits;
@@ -13,6 +14,12 @@ fn wide(x: u32) -> u64 {
 }
 
 fn size(x: u32) -> usize
+    ensures { λ r. ⌜ r ≡ x ⌝ }
+{
+    x as usize
+}
+
+fn byte_size(x: u8) -> usize
     ensures { λ r. ⌜ r ≡ x ⌝ }
 {
     x as usize
@@ -86,6 +93,103 @@ fn syntax_case(text: &[u8], which: Syntax) {
     }
 }
 
+// The answer of `check` for a document under a list.
+fn check_case(list: &[u8], document: &[u8]) {
+    let mut work1 = [0u32; Limits::WORK_WORDS];
+    let mut work2 = [0u32; Limits::WORK_WORDS];
+    let mut calls = [0u32; Limits::CALL_WORDS];
+    let mut wires = [0u32; Limits::WIRE_WORDS];
+    print_answer(rules::check::check(
+        list,
+        document,
+        &mut work1,
+        &mut work2,
+        &mut calls,
+        &mut wires,
+    ));
+}
+
+// A list before `|`, and a document behind it and one blank.
+fn pair_case(text: &[u8]) {
+    let bar = end_of(text, 0, b'|');
+    if bar + 2 <= text.len() {
+        check_case(&text[0..bar], &text[bar + 2..]);
+    }
+}
+
+// A number with one digit more; only a digit counts, and no fifth one.
+fn with_digit(n: usize, digit: u8) -> usize
+    requires { ⌜ n ≤ 9999 ⌝ }
+    ensures { λ r. ⌜ r ≤ 9999 ⌝ }
+{
+    if n < 1000 {
+        if digit >= b'0' {
+            if digit <= b'9' {
+                return n * 10 + byte_size(digit - b'0');
+            }
+        }
+    }
+    n
+}
+
+// The number that a text says in digits.
+fn number(text: &[u8]) -> usize {
+    let mut n = 0;
+    let mut i = 0;
+    while i < text.len() {
+        n = with_digit(n, text[i]);
+        i += 1;
+    }
+    n
+}
+
+fn least(a: usize, b: usize) -> usize
+    ensures { λ r. ⌜ (r ≤ a) × (r ≤ b) ⌝ }
+{
+    if a < b { a } else { b }
+}
+
+// Stores bytes from a position on, as far as there is room, and gives the position after them.
+fn put(out: &mut [u8], at: usize, bytes: &[u8]) -> usize
+    requires { ⌜ at ≤ length (now out) ⌝ }
+    ensures { λ r. ⌜ r ≤ length (now (out .entry)) ⌝ }
+{
+    let n = least(bytes.len(), out.len() - at);
+    let mut i = 0;
+    while i < n {
+        out[at + i] = bytes[i];
+        i += 1;
+    }
+    at + n
+}
+
+// Stores a document of n calls, or of two if n is less, and gives its length.
+fn put_calls(out: &mut [u8], n: usize) -> usize
+    ensures { λ r. ⌜ r ≤ length (now (out .entry)) ⌝ }
+{
+    let mut at = put(
+        &mut *out,
+        0,
+        b"version 1.0 graph g(a)->(b){a=external(shape=[1]);[b]=items(a);",
+    );
+    let mut i = 2;
+    while i < n {
+        at = put(&mut *out, at, b"[]=items(a);");
+        i += 1;
+    }
+    put(out, at, b"}")
+}
+
+// A document of so many calls.
+fn calls_case(text: &[u8]) {
+    let mut document = [0u8; Limits::TEXT];
+    let n = put_calls(&mut document, number(text));
+    check_case(
+        b"fragment external(shape: extent[]) -> (y: tensor) fragment items(x: tensor) -> (ys: tensor[])",
+        &document[0..n],
+    );
+}
+
 // One case: its line, and its answer below.
 fn case(line: &[u8]) {
     io::write_all(1, line);
@@ -104,17 +208,23 @@ fn case(line: &[u8]) {
     if which == b'D' {
         syntax_case(text, Syntax::Document);
     }
+    if which == b'C' {
+        pair_case(text);
+    }
+    if which == b'N' {
+        calls_case(text);
+    }
     io::write_all(1, b"\n");
 }
 
-// The end of the line that starts at `from`: its line feed, or the end of the text.
-fn line_end(s: &[u8], from: usize) -> usize
+// The first place of a byte from a position on, or the end of the text.
+fn end_of(s: &[u8], from: usize, byte: u8) -> usize
     requires { ⌜ from ≤ length (now s) ⌝ }
     ensures { λ r. ⌜ (from ≤ r) × (r ≤ length (now (s .entry))) ⌝ }
 {
     let mut i = from;
     while i < s.len() {
-        if s[i] == 10 {
+        if s[i] == byte {
             return i;
         }
         i += 1;
@@ -125,7 +235,7 @@ fn line_end(s: &[u8], from: usize) -> usize
 fn cases(s: &[u8]) {
     let mut at = 0;
     while at < s.len() {
-        let end = line_end(s, at);
+        let end = end_of(s, at, 10);
         case(&s[at..end]);
         at = end + 1;
     }

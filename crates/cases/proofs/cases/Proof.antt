@@ -8,7 +8,7 @@ use Rattle.cases.proofs.cases.Tie as tie
 use Rattle.cases.proofs.cases.Reads as reads
 use Rattle.cases.proofs.cases.Lts as lts
 use Rattle.cases.proofs.case.Reads as case-reads
-use Rattle.cases.proofs.line_end.Reads as line-end-reads
+use Rattle.cases.proofs.end_of.Reads as end-of-reads
 
 abbrev Inv-loop : tie.InvT-loop
 Inv-loop s at₀ at = at ≤ length s + 1
@@ -16,43 +16,33 @@ Inv-loop s at₀ at = at ≤ length s + 1
 abbrev μ-loop : tie.MeasureT-loop
 μ-loop s at₀ at = length s - at
 
--- src/main.rt:88:5
 loop-holds : tie.Need-loop-holds Inv-loop μ-loop
 loop-holds c = search needs
 
--- src/main.rt:89:13
-line-end-requires : tie.Need-line-end-requires Inv-loop μ-loop
-line-end-requires c κs = search needs
+end-of-requires : tie.Need-end-of-requires Inv-loop μ-loop
+end-of-requires c κs = search needs
 
--- src/main.rt:90:14
 sub-case : tie.Need-sub-case Inv-loop μ-loop
 sub-case c = search needs
 
--- src/main.rt:90:14
 part-case-start : tie.Need-part-case-start Inv-loop μ-loop
 part-case-start c = search needs
 
--- src/main.rt:90:14
 part-case-end : tie.Need-part-case-end Inv-loop μ-loop
 part-case-end c = search needs
 
--- src/main.rt:90:9
 case-requires : tie.Need-case-requires Inv-loop μ-loop
 case-requires c κs = search needs
 
--- src/main.rt:91:14
 add-at : tie.Need-add-at Inv-loop μ-loop
 add-at c = search needs
 
--- src/main.rt:88:5
 loop-less : tie.Need-loop-less Inv-loop μ-loop
 loop-less c = search needs
 
--- src/main.rt:88:5
 loop-again : tie.Need-loop-again Inv-loop μ-loop
 loop-again c = search needs
 
--- src/main.rt:86:1
 returns : tie.Need-returns Inv-loop μ-loop
 returns c = tt
 
@@ -63,7 +53,7 @@ cases-spec =
     Inv-loop
     μ-loop
     loop-holds
-    line-end-requires
+    end-of-requires
     sub-case
     part-case-start
     part-case-end

@@ -14,43 +14,33 @@ Inv-loop table n i₀ t4 i = i ≤ n
 abbrev μ-loop : tie.MeasureT-loop
 μ-loop table n i₀ t4 i = n - i
 
--- src/main.rt:35:5
 loop-holds : tie.Need-loop-holds Inv-loop μ-loop
 loop-holds c = search needs
 
--- src/main.rt:37:30
 slice-aggregate-write-all : tie.Need-slice-aggregate-write-all Inv-loop μ-loop
 slice-aggregate-write-all c = search needs
 
--- src/main.rt:37:13
 write-all-requires : tie.Need-write-all-requires Inv-loop μ-loop
 write-all-requires c κs = search needs
 
--- src/main.rt:38:26
 mul-print-number : tie.Need-mul-print-number Inv-loop μ-loop
 mul-print-number c = search needs
 
--- src/main.rt:38:26
 shared-slice-read-print-number : tie.Need-shared-slice-read-print-number Inv-loop μ-loop
 shared-slice-read-print-number c = search needs
 
--- src/main.rt:38:13
 print-number-requires : tie.Need-print-number-requires Inv-loop μ-loop
 print-number-requires c κs = search needs
 
--- src/main.rt:40:9
 add-i : tie.Need-add-i Inv-loop μ-loop
 add-i c = search needs
 
--- src/main.rt:35:5
 loop-less : tie.Need-loop-less Inv-loop μ-loop
 loop-less c = search needs
 
--- src/main.rt:35:5
 loop-again : tie.Need-loop-again Inv-loop μ-loop
 loop-again c = search needs
 
--- src/main.rt:33:1
 returns : tie.Need-returns Inv-loop μ-loop
 returns c = tt
 

@@ -12,48 +12,37 @@ use Rattle.cases.proofs.print_answer.Reads as print-answer-reads
 use Rattle.lexis.proofs.limits.Limits.text_fits.Reads as text-fits-reads
 use Rattle.syntax.proofs.read.Reads as read-reads
 
--- src/main.rt:62:9
 text-fits-requires : tie.Need-text-fits-requires
 text-fits-requires c κs = search needs
 
--- src/main.rt:63:9
 print-answer-requires : tie.Need-print-answer-requires
 print-answer-requires c κs = search needs
 
--- src/main.rt:69:9
 returns : tie.Need-returns
 returns c = search needs
 
--- src/main.rt:73:40
 slice-aggregate-read : tie.Need-slice-aggregate-read
 slice-aggregate-read c = search needs
 
--- src/main.rt:73:11
 read-requires : tie.Need-read-requires
 unfolding classTable classesFrom classOf
 read-requires c κs = (refl, (leb-true _ _ (sym (c .before .before .before .text-fits .ensures) ∙ not-false _ (c .before .before .if1 .left)), omega arith))
 
--- src/main.rt:74:25
 enum-known-n : tie.Need-enum-known-n
 enum-known-n c = search needs
 
--- src/main.rt:74:31
 print-answer-requires-2 : tie.Need-print-answer-requires-2
 print-answer-requires-2 c κs = search needs
 
--- src/main.rt:80:26
 enum-known-code : tie.Need-enum-known-code
 enum-known-code c = search needs
 
--- src/main.rt:80:40
 print-answer-requires-3 : tie.Need-print-answer-requires-3
 print-answer-requires-3 c κs = search needs
 
--- src/main.rt:61:1
 returns-2 : tie.Need-returns-2
 returns-2 c = search needs
 
--- src/main.rt:61:1
 returns-3 : tie.Need-returns-3
 returns-3 c = search needs
 

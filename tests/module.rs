@@ -1,0 +1,6 @@
+//! The module for Rust, with nothing of it used.
+
+#[path = "../include/nnef.rs"]
+mod nnef;
+
+fn main() {}
