@@ -1,14 +1,14 @@
 // The canonical text of documents, and the operation that writes it.
-pub mod argument;
-pub mod call;
+mod argument;
+mod call;
 mod code;
-pub mod document;
-pub mod pattern;
-pub mod place;
+mod document;
+mod pattern;
+mod place;
 pub mod program;
-pub mod spelling;
-pub mod value;
-pub mod writer;
+mod spelling;
+mod value;
+mod writer;
 
 use code::Code;
 use document::put_document;
@@ -88,7 +88,7 @@ fn write(
         return no_text(Code::SHORT_OUTPUT, detail);
     }
     put_document(out, list, work1, n, names, doc, work2, m);
-    no_text(0, detail)
+    no_text(lexis::code::Code::ACCEPTED, detail)
 }
 
 // All stages after the guards. Leaves anything in the work areas.

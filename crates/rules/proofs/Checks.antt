@@ -87,8 +87,16 @@ module _ (list doc work₁ work₂ calls wires : List ℕ) where
       → Ended (bothStages list doc) calls calls' wires wires' r → work₁' ≡ replicate n 0 → n ≡ length work₁ → work₂' ≡ replicate m 0 → m ≡ length work₂ → Ensured r calls' wires' work₁' work₂'
   unfolding checkAnswer checked
   ended {n = n} {m} e f g w z i y j =
-      let s = guard-none list doc (bothStages list doc) e f g in
-      (rw s (w .answered), (rw s (w .called), (rw s (w .wired), (
-        z ∙ cleared-after (bothStages list doc) callCount (both-codes list doc) n work₁ i (w .answered),
-        y ∙ cleared-after (bothStages list doc) callCount (both-codes list doc) m work₂ j (w .answered),
-      ))))
+      let s = guard-none list doc (bothStages list doc) e f g in (
+        rw s (w .answered),
+        (
+          rw s (w .called),
+          (
+            rw s (w .wired),
+            (
+              z ∙ cleared-after (bothStages list doc) callCount (both-codes list doc) n work₁ i (w .answered),
+              y ∙ cleared-after (bothStages list doc) callCount (both-codes list doc) m work₂ j (w .answered),
+            ),
+          ),
+        ),
+      )

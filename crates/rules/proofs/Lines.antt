@@ -343,11 +343,16 @@ module _ (At : ℕ → Type 0) where
             let ss = slots (h .params) (c .args) in
             let l = slots-count (h .params) (leading (c .args)) (c .args) in
             let m = found-few hs (c .op) h few e in
-            each-flatten (OnLine DocumentCode At) (misplaced (h .params) (c .args) ∷ misnamed (h .params) (c .args) ∷ misfits ss ∷ missing (c .op .start) ss ∷ [])
-            (misplaced-lined true (h .params) (c .args) (g .args),
-            (misnamed-lined (h .params) (c .args) (g .args),
-            (misfits-lined ss (slot-places (h .params) (leading (c .args)) (c .args) (leading-places (c .args) (g .args)) (g .args)),
-            (missing-lined (c .op .start) 0 ss (g .op) (omega (arith, l, m)), tt))))
+            each-flatten (OnLine DocumentCode At) (misplaced (h .params) (c .args) ∷ misnamed (h .params) (c .args) ∷ misfits ss ∷ missing (c .op .start) ss ∷ []) (
+              misplaced-lined true (h .params) (c .args) (g .args),
+              (
+                misnamed-lined (h .params) (c .args) (g .args),
+                (
+                  misfits-lined ss (slot-places (h .params) (leading (c .args)) (c .args) (leading-places (c .args) (g .args)) (g .args)),
+                  (missing-lined (c .op .start) 0 ss (g .op) (omega (arith, l, m)), tt),
+                ),
+              ),
+            )
 
     unmatched-lined : (c : Call) → HasCall Place c → InDocument (unmatched hs c)
     unfolding unmatched
@@ -398,12 +403,19 @@ module _ (At : ℕ → Type 0) where
         ∷ over maxCalls (map (λ (c : Call). startOf (c .left)) (d .calls))
         ∷ over maxAssigned (starts (allAssigned (d .calls)))
         ∷ over maxUses (starts (allUsed (d .calls)))
-        ∷ [])
-        (names-over maxInputs (d .inputs) (g .inputs),
-        (names-over maxOutputs (d .outputs) (g .outputs),
-        (over-lined DocumentCode At maxCalls (map (λ (c : Call). startOf (c .left)) (d .calls)) over-size (left-places (d .calls) (g .calls)),
-        (names-over maxAssigned (allAssigned (d .calls)) (all-assigned (d .calls) (g .calls)),
-        (names-over maxUses (allUsed (d .calls)) (all-used (d .calls) (g .calls)), tt)))))
+        ∷ []) (
+          names-over maxInputs (d .inputs) (g .inputs),
+          (
+            names-over maxOutputs (d .outputs) (g .outputs),
+            (
+              over-lined DocumentCode At maxCalls (map (λ (c : Call). startOf (c .left)) (d .calls)) over-size (left-places (d .calls) (g .calls)),
+              (
+                names-over maxAssigned (allAssigned (d .calls)) (all-assigned (d .calls) (g .calls)),
+                (names-over maxUses (allUsed (d .calls)) (all-used (d .calls) (g .calls)), tt),
+              ),
+            ),
+          ),
+        )
       where
         names-over : (size : ℕ) (ts : List Token) → Each Place ts → InDocument (over size (starts ts))
         names-over size ts k = over-lined DocumentCode At size (starts ts) over-size (each-map At (λ (t : Token). t .start) ts k)
@@ -452,17 +464,34 @@ module _ (At : ℕ → Type 0) where
         ∷ unwiredAfter [] (d .calls)
         ∷ misfed d
         ∷ unmade d
-        ∷ [])
-        (version-lined d g,
-        (counts-in d g,
-        (repeats-in d g,
-        (flat-lined (undeclared hs) undeclared-lined d g,
-        (flat-lined (argumentFaults hs) arguments-lined d g,
-        (flat-lined (unmatched hs) unmatched-lined d g,
-        (again-lined d g,
-        (unwired-lined [] (d .calls) (g .calls),
-        (misfed-lined d g,
-        (unmade-lined d g, tt))))))))))
+        ∷ []) (
+          version-lined d g,
+          (
+            counts-in d g,
+            (
+              repeats-in d g,
+              (
+                flat-lined (undeclared hs) undeclared-lined d g,
+                (
+                  flat-lined (argumentFaults hs) arguments-lined d g,
+                  (
+                    flat-lined (unmatched hs) unmatched-lined d g,
+                    (
+                      again-lined d g,
+                      (
+                        unwired-lined [] (d .calls) (g .calls),
+                        (
+                          misfed-lined d g,
+                          (unmade-lined d g, tt),
+                        ),
+                      ),
+                    ),
+                  ),
+                ),
+              ),
+            ),
+          ),
+        )
 
   -- under a list without faults
   pub document-lined : (hs : List Header) → first (listFaults hs) ≡ nothing → (d : Document) → HasDocument (λ t. At (t .start)) d → Each (OnLine DocumentCode At) (documentFaults hs d)

@@ -101,7 +101,7 @@ fn both_answer(
 {
     match both_stages(list, doc, &mut *work1, &mut *work2) {
         Staged::Passed(n, k, m) => Answer {
-            code: 0,
+            code: Code::ACCEPTED,
             text: 0,
             position: 0,
             detail: write_tables(list, work1, n, k, doc, work2, m, calls, wires) as u32,

@@ -1,25 +1,25 @@
 // The rules of operation lists and documents.
-pub mod best;
-pub mod binding;
-pub mod body;
+mod best;
+mod binding;
+mod body;
 pub mod calls;
 pub mod check;
 mod code;
-pub mod document;
+mod document;
 pub mod fitting;
 pub mod graph;
-pub mod headers;
-pub mod list;
-pub mod mask;
-pub mod names;
+mod headers;
+mod list;
+mod mask;
+mod names;
 pub mod operation;
 pub mod parameter;
-pub mod scan;
+mod scan;
 pub mod stages;
-pub mod tables;
-pub mod usage;
-pub mod wires;
-pub mod wiring;
+mod tables;
+mod usage;
+mod wires;
+mod wiring;
 pub mod word;
 
 use lexis::Answer;
@@ -71,7 +71,7 @@ fn list_answer(list: &[u8], work: &mut [u32]) -> Answer
     let classes = CLASSES;
     match list_stages(&classes, list, work) {
         Listed::Passed(_n, k) => Answer {
-            code: 0,
+            code: Code::ACCEPTED,
             text: 0,
             position: 0,
             detail: k as u32,
