@@ -55,7 +55,7 @@ prepend-fine text at n k len no-gap is some fits kind (accepted ts) f =
     let rest : Placed text (at + length (take len (drop at text))) ts = subst (λ (m : ℕ). Placed text (at + m) ts) (sym l) (f .0) in
     let t : Token = record { kind = k; start = at; bytes = take len (drop at text) } in
     let here : Placed text at (t ∷ ts) = next {at = at} {t = t} (omega arith) (is ∙ ap (L.Token k) (sym l))
-        (omega arith) (omega arith) (ap (λ (m : ℕ). take m (drop at text)) (sym l)) rest in
+    (omega arith) (omega arith) (ap (λ (m : ℕ). take m (drop at text)) (sym l)) rest in
     (here, (omega (arith, f .1 .0), (kind, f .1 .1)))
 prepend-fine text at n k len no-gap is some fits kind (refused c p) f = f
 

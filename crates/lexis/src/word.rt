@@ -35,7 +35,7 @@ fn kind_if(w: &[u8], spelling: &[u8], kind: u8) -> u8
 }
 
 // The kind of a word, which is compared with the words of its first byte.
-pub fn kind_of_word(w: &[u8]) -> u8
+pub(crate) fn kind_of_word(w: &[u8]) -> u8
     ensures { λ r. ⌜ r ≡ kindOfWord (now (w .entry)) ⌝ }
 {
     if w.len() == 0 {

@@ -1,7 +1,7 @@
 // The syntax of operation lists and documents: readers over a table of tokens.
-pub mod graph;
+mod graph;
 pub mod list;
-pub mod operations;
+mod operations;
 pub mod symbol;
 pub mod types;
 pub mod value;
