@@ -74,16 +74,17 @@ number-shorter k n m j l s e h f =
     let same : partsOf (take m s) ≡ partsOf s = parts-take s m (omega arith) in
     no-longer _ _ e f (partsLen (partsOf s)) (partsLen (partsOf s)) (number-long s) (rw same at (number-long (take m s))) (omega arith)
 
+-- the lexeme of x ∷ s where x is a digit, a letter, a quote, or none of them
+abbrev by-class : Bool → Bool → Bool → ℕ → List ℕ → Lexeme
+by-class a b c x s = cond a (numberLexeme (x ∷ s)) (cond b (wordLexeme (x ∷ s)) (cond c (stringLexeme x s) (markLexeme x (getD s 0 0))))
+
 pub shorter : (k n m j l : ℕ) (s : List ℕ) → lexeme s ≡ L.Token k n → n ≤ m → lexeme (take m s) ≡ L.Token j l → l ≤ n
 unfolding lexeme
 shorter k n zero j l s e h f = let z : _≡_ {A = ℕ} 0 1 = cc in absurd (omega arith)
 shorter k n (suc m) j l [] e h f = let z : _≡_ {A = ℕ} 0 1 = cc in absurd (omega arith)
 shorter k n (suc m) j l (x ∷ s) e h f = go (eqb (classOf x) 2) (eqb (classOf x) 3) (eqb (classOf x) 4) e f
   where
-    go : (a b c : Bool)
-        → cond a (numberLexeme (x ∷ s)) (cond b (wordLexeme (x ∷ s)) (cond c (stringLexeme x s) (markLexeme x (getD s 0 0)))) ≡ L.Token k n
-        → cond a (numberLexeme (x ∷ take m s)) (cond b (wordLexeme (x ∷ take m s)) (cond c (stringLexeme x (take m s)) (markLexeme x (getD (take m s) 0 0)))) ≡ L.Token j l
-        → l ≤ n
+    go : (a b c : Bool) → by-class a b c x s ≡ L.Token k n → by-class a b c x (take m s) ≡ L.Token j l → l ≤ n
     go true b c e f = number-shorter k n (suc m) j l (x ∷ s) e h f
     go false true c e f = no-longer _ _ e f _ _ (word-long (x ∷ s)) (word-long (x ∷ take m s)) (omega (arith, span-take isNamePart (suc m) (x ∷ s)))
     go false false true e f = no-longer _ _ e f _ _ (string-long x s) (string-long x (take m s)) (omega (arith, span-take (isContent x) m s))

@@ -48,8 +48,8 @@ cond-fine text from n true x y p q = p refl
 cond-fine text from n false x y p q = q
 
 -- a token of length len at `at`, where no gap stands, and what follows it
-prepend-fine : (text : List ℕ) (at n k len : ℕ) → gapLen (drop at text) ≡ 0 → lexeme (drop at text) ≡ L.Token k len → 1 ≤ len → at + len ≤ length text → IsKind k
-    → (l : Lexed) → Fine text (at + len) (suc n) l → Fine text at n (prepend (record { kind = k; start = at; bytes = take len (drop at text) }) l)
+prepend-fine : (text : List ℕ) (at n k len : ℕ) → gapLen (drop at text) ≡ 0 → lexeme (drop at text) ≡ L.Token k len → 1 ≤ len
+    → at + len ≤ length text → IsKind k → (l : Lexed) → Fine text (at + len) (suc n) l → Fine text at n (prepend (record { kind = k; start = at; bytes = take len (drop at text) }) l)
 prepend-fine text at n k len no-gap is some fits kind (accepted ts) f =
     let l : length (take len (drop at text)) ≡ len = length-take-le len (drop at text) (omega (arith, length-drop at text)) in
     let rest : Placed text (at + length (take len (drop at text))) ts = subst (λ (m : ℕ). Placed text (at + m) ts) (sym l) (f .0) in
@@ -68,8 +68,8 @@ rest-is text at x s e =
 inside : (text : List ℕ) (at x : ℕ) (s : List ℕ) → drop at text ≡ x ∷ s → at + suc (length s) ≡ length text
 inside text at x s e = omega (arith, length-drop at text, ap length e)
 
-admit-fine : (text : List ℕ) (at n x : ℕ) (s : List ℕ) (l : Lexeme) (rest : ℕ → Lexed) → drop at text ≡ x ∷ s → gapLen (x ∷ s) ≡ 0 → lexeme (x ∷ s) ≡ l
-    → Sized (suc (length s)) l → Told l → ((len : ℕ) → 1 ≤ len → len ≤ suc (length s) → n < maxTokens → Fine text (at + len) (suc n) (rest len))
+admit-fine : (text : List ℕ) (at n x : ℕ) (s : List ℕ) (l : Lexeme) (rest : ℕ → Lexed) → drop at text ≡ x ∷ s → gapLen (x ∷ s) ≡ 0
+    → lexeme (x ∷ s) ≡ l → Sized (suc (length s)) l → Told l → ((len : ℕ) → 1 ≤ len → len ≤ suc (length s) → n < maxTokens → Fine text (at + len) (suc n) (rest len))
     → Fine text at n (admit l n at (x ∷ s) rest)
 unfolding admit
 admit-fine text at n x s (L.Fault c) rest e g is z t r = (omega arith, omega (arith, inside text at x s e))
@@ -77,13 +77,23 @@ admit-fine text at n x s (L.Token k len) rest e g is z t r =
     cond-fine text at n (ltb n maxTokens) _ _
     (λ b.
     subst (λ (y : List ℕ). Fine text at n (prepend (record { kind = k; start = at; bytes = take len y }) (rest len))) e
-    (prepend-fine text at n k len (ap gapLen e ∙ g) (ap lexeme e ∙ is) (z .0) (omega (arith, z .1, inside text at x s e)) t (rest len) (r len (z .0) (z .1) (ltb-true n maxTokens b))))
+    (prepend-fine text at n k len (ap gapLen e ∙ g) (ap lexeme e ∙ is) (z .0) (omega (arith, z .1, inside text at x s e)) t (rest len)
+    (r len (z .0) (z .1) (ltb-true n maxTokens b))))
     (omega arith, omega (arith, inside text at x s e))
 
+-- the same position, spelt otherwise
 moved : (text : List ℕ) (a b n : ℕ) (l : Lexed) → a ≡ b → Fine text a n l → Fine text b n l
 moved text a b n l e f = subst (λ (at : ℕ). Fine text at n l) e f
 
-pub fine : (text : List ℕ) (k n at : ℕ) (s : List ℕ) → drop at text ≡ s → k ≤ length s → n ≤ maxTokens → at ≤ length text → Fine text (at + k) n (lexFrom k n at s)
+-- what follows a gap of g bytes at the front of x ∷ s, which stands at `at`
+abbrev past-gap : ℕ → ℕ → ℕ → List ℕ → ℕ → Lexed
+past-gap n at x s g = elim g as (λ y. Lexed) [
+  | zero ↦ admit (lexeme (x ∷ s)) n at (x ∷ s) (λ len. lexFrom (pred len) (suc n) (suc at) s)
+  | suc g ↦ lexFrom g n (suc at) s
+]
+
+pub fine : (text : List ℕ) (k n at : ℕ) (s : List ℕ) → drop at text ≡ s → k ≤ length s → n ≤ maxTokens → at ≤ length text
+    → Fine text (at + k) n (lexFrom k n at s)
 unfolding lexFrom gapFrom
 fine text k n at [] e h few m =
     let z : at + k ≡ at = omega arith in
@@ -93,7 +103,7 @@ fine text (suc k) n at (x ∷ s) e h few m =
     (fine text k n (suc at) s (rest-is text at x s e) (le-of-suc-le-suc h) few (omega (arith, inside text at x s e)))
 fine text zero n at (x ∷ s) e h few m =
     moved text at (at + 0) n (lexFrom 0 n at (x ∷ s)) (omega arith)
-    (elim (gapLen (x ∷ s)) as (λ g. gapLen (x ∷ s) ≡ g → g ≤ suc (length s) → Fine text at n (elim g as (λ y. Lexed) [ zero ↦ admit (lexeme (x ∷ s)) n at (x ∷ s) (λ len. lexFrom (pred len) (suc n) (suc at) s) | suc g ↦ lexFrom g n (suc at) s ])) [
+    (elim (gapLen (x ∷ s)) as (λ g. gapLen (x ∷ s) ≡ g → g ≤ suc (length s) → Fine text at n (past-gap n at x s g)) [
       | zero ↦ λ q _.
           admit-fine text at n x s (lexeme (x ∷ s)) (λ len. lexFrom (pred len) (suc n) (suc at) s) e q refl (sized (x ∷ s)) (told (x ∷ s))
           (λ len a b room.

@@ -41,10 +41,14 @@ pub kind-by : (w : List ℕ) (f : ℕ) → getD w 0 0 ≡ f → kindIn words w �
 kind-by w f e = kind-begun w words ∙ ap (λ (a : ℕ). kindIn (begun a words) w) e
 
 -- no word has another first byte than these
-pub none-else : (w : List ℕ) → (getD w 0 0 ≡ 116 → ⊥) → (getD w 0 0 ≡ 102 → ⊥) → (getD w 0 0 ≡ 103 → ⊥) → (getD w 0 0 ≡ 101 → ⊥) → (getD w 0 0 ≡ 115 → ⊥) → (getD w 0 0 ≡ 108 → ⊥) → (getD w 0 0 ≡ 114 → ⊥) → (getD w 0 0 ≡ 105 → ⊥) → (getD w 0 0 ≡ 118 → ⊥) → 1 ≡ kindIn words w
+pub none-else : (w : List ℕ) → (getD w 0 0 ≡ 116 → ⊥) → (getD w 0 0 ≡ 102 → ⊥) → (getD w 0 0 ≡ 103 → ⊥) → (getD w 0 0 ≡ 101 → ⊥)
+    → (getD w 0 0 ≡ 115 → ⊥) → (getD w 0 0 ≡ 108 → ⊥) → (getD w 0 0 ≡ 114 → ⊥) → (getD w 0 0 ≡ 105 → ⊥) → (getD w 0 0 ≡ 118 → ⊥)
+    → 1 ≡ kindIn words w
 unfolding begun keep words kindIn
 none-else w n116 n102 n103 n101 n115 n108 n114 n105 n118 =
-    let none : begun (getD w 0 0) words ≡ [] = rw (ne-eqb _ 116 n116, ne-eqb _ 102 n102, ne-eqb _ 103 n103, ne-eqb _ 101 n101, ne-eqb _ 115 n115, ne-eqb _ 108 n108, ne-eqb _ 114 n114, ne-eqb _ 105 n105, ne-eqb _ 118 n118) in
+    let none : begun (getD w 0 0) words ≡ [] =
+    rw (ne-eqb _ 116 n116, ne-eqb _ 102 n102, ne-eqb _ 103 n103, ne-eqb _ 101 n101, ne-eqb _ 115 n115)
+    (rw (ne-eqb _ 108 n108, ne-eqb _ 114 n114, ne-eqb _ 105 n105, ne-eqb _ 118 n118)) in
     sym (kind-begun w words ∙ ap (λ (l : List Word). kindIn l w) none)
 
 pub kind-empty : (w : List ℕ) → length w ≡ 0 → 1 ≡ kindIn words w

@@ -48,12 +48,14 @@ module _ (w : List ℕ) where
 
   -- ---- any keyword
 
-  no-type : (f : String) → Begins f → eqb (byte f) (byte "t") ≡ false → eqb (byte f) (byte "e") ≡ false → eqb (byte f) (byte "s") ≡ false → eqb (byte f) (byte "l") ≡ false
-      → typeSymbol w ≡ other
+  no-type : (f : String) → Begins f → eqb (byte f) (byte "t") ≡ false → eqb (byte f) (byte "e") ≡ false
+      → eqb (byte f) (byte "s") ≡ false → eqb (byte f) (byte "l") ≡ false → typeSymbol w ≡ other
   unfolding typeSymbol
   no-type f b t e s l = rw (not-word f "tensor" b t, not-word f "extent" b e, not-word f "scalar" b s, not-word f "logical" b l, not-word f "string" b s)
 
-  tests-first : keywordSymbol w ≡ cond (sameBytes w (ascii "version")) version (cond (sameBytes w (ascii "graph")) graph (cond (sameBytes w (ascii "fragment")) fragment (typeSymbol w)))
+  tests-first : keywordSymbol w
+      ≡ cond (sameBytes w (ascii "version")) version
+      (cond (sameBytes w (ascii "graph")) graph (cond (sameBytes w (ascii "fragment")) fragment (typeSymbol w)))
   unfolding keywordSymbol typeSymbol
   tests-first = refl
 

@@ -32,7 +32,9 @@ returns-2 c =
     let not-first = second .before .before in
     let first = not-first .before in
     let start = first .before .before .before in
-    sym (kind-by (start .args .w .now) 102 (start .pre) ∙ rw (sym (first .same .ensures) ∙ not-first .if1 .left, sym (second .same2 .ensures) ∙ c .if2 .taken))
+    sym
+    (kind-by (start .args .w .now) 102 (start .pre)
+    ∙ rw (sym (first .same .ensures) ∙ not-first .if1 .left, sym (second .same2 .ensures) ∙ c .if2 .taken))
 
 slice-aggregate-kind-if : tie.Need-slice-aggregate-kind-if
 slice-aggregate-kind-if c = search needs
@@ -48,7 +50,21 @@ returns-3 c =
     let not-first = second .before .before in
     let first = not-first .before in
     let start = first .before .before .before in
-    c .kind-if .ensures ∙ sym (kind-by (start .args .w .now) 102 (start .pre) ∙ rw (sym (first .same .ensures) ∙ not-first .if1 .left, sym (second .same2 .ensures) ∙ not-second .if2 .left))
+    c .kind-if .ensures
+    ∙ sym
+    (kind-by (start .args .w .now) 102 (start .pre)
+    ∙ rw (sym (first .same .ensures) ∙ not-first .if1 .left, sym (second .same2 .ensures) ∙ not-second .if2 .left))
 
 pub kind-f-spec : {M : Type 1} → statement M
-kind-f-spec = tie.close (tie.spec slice-aggregate-same same-requires returns slice-aggregate-same-2 same-requires-2 returns-2 slice-aggregate-kind-if kind-if-requires returns-3)
+kind-f-spec =
+    tie.close
+    (tie.spec
+    slice-aggregate-same
+    same-requires
+    returns
+    slice-aggregate-same-2
+    same-requires-2
+    returns-2
+    slice-aggregate-kind-if
+    kind-if-requires
+    returns-3)
