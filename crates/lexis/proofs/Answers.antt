@@ -9,7 +9,8 @@ use lib.ListN.{length, take, drop, getD, set}
 use lib.Seq.{sets, sets-eq, length-sets, paste, take-at, getD-set-other}
 use Rattle.lexis.specs.Sizes.{maxText, tokenWords, tableWords}
 use Rattle.lexis.specs.Lexer.{Token, Lexed, accepted, refused, lex}
-use Rattle.lexis.specs.Answer.{answer, records, countedAfter, answerOf, recordedFrom, Recorded, Room, tokensAnswer, tokensTable}
+use Rattle.lexis.specs.Answer.{answer, records, countedAfter, answerOf, recorded, tokensAnswer, tokensTable}
+use Rattle.lexis.specs.Work.{Recorded, Room}
 use Rattle.lexis.specs.declared.Answer.{Answer}
 use Rattle.lexis.specs.declared.Counted.{Counted}
 use Rattle.lexis.specs.declared.Counted.the-variants.{Tokens, Fault}
@@ -35,19 +36,19 @@ written-length (refused c p) before after e = e
 
 module _ (l : Lexed) (work work′ : List ℕ) where
   pub by-good : (n m : ℕ) (table table′ : List ℕ) → Tokens n ≡ countedAfter 0 l → Recorded l work work′ → Room (Tokens n) (length work) → m ≡ n * tokenWords → tableWords ≤ length table → table′ ≡ paste table 0 work′ m
-      → (answer 0 0 0 n ≡ answerOf (countedAfter 0 l)) × (table′ ≡ recordedFrom 0 table l)
+      → (answer 0 0 0 n ≡ answerOf (countedAfter 0 l)) × (table′ ≡ recorded table l)
   by-good n m table table′ e w r q h p = (ap answerOf e, go l e w)
     where
-      go : (l : Lexed) → Tokens n ≡ countedAfter 0 l → Recorded l work work′ → table′ ≡ recordedFrom 0 table l
+      go : (l : Lexed) → Tokens n ≡ countedAfter 0 l → Recorded l work work′ → table′ ≡ recorded table l
       go (accepted ts) e w =
           let many : n ≡ 0 + length ts = cc in
           copied work work′ table table′ (records ts) m (omega (arith, records-length ts)) (omega (arith, r .1)) (omega (arith, r .0)) w p
       go (refused c d) e w = let z : _≡_ {A = ℕ} 0 1 = cc in absurd (omega arith)
 
-  pub by-fault : (k p : ℕ) (table : List ℕ) → Fault k p ≡ countedAfter 0 l → (answer k 1 p 0 ≡ answerOf (countedAfter 0 l)) × (table ≡ recordedFrom 0 table l)
+  pub by-fault : (k p : ℕ) (table : List ℕ) → Fault k p ≡ countedAfter 0 l → (answer k 1 p 0 ≡ answerOf (countedAfter 0 l)) × (table ≡ recorded table l)
   by-fault k p table e = (ap answerOf e, go l e)
     where
-      go : (l : Lexed) → Fault k p ≡ countedAfter 0 l → table ≡ recordedFrom 0 table l
+      go : (l : Lexed) → Fault k p ≡ countedAfter 0 l → table ≡ recorded table l
       go (accepted ts) e = let z : _≡_ {A = ℕ} 0 1 = cc in absurd (omega arith)
       go (refused c d) e = refl
 
@@ -61,7 +62,7 @@ module _ (text table : List ℕ) where
     unfolding tokensAnswer tokensTable
     long-text t = (rw (serves, t), rw (serves, t))
 
-    pub tokens-by : leb (length text) maxText ≡ true → (r : Answer) (after : List ℕ) → r ≡ answerOf (countedAfter 0 (lex text)) → after ≡ recordedFrom 0 table (lex text)
+    pub tokens-by : leb (length text) maxText ≡ true → (r : Answer) (after : List ℕ) → r ≡ answerOf (countedAfter 0 (lex text)) → after ≡ recorded table (lex text)
         → (r ≡ tokensAnswer text table) × (after ≡ tokensTable text table)
     unfolding tokensAnswer tokensTable
     tokens-by fits r after e s = (rw (serves, fits) e, rw (serves, fits) s)
@@ -75,7 +76,7 @@ sets-beyond (v ∷ vs) l at i h = sets-beyond vs (set l at v) (suc at) i (omega 
 
 module _ (text table : List ℕ) where
   by-tests : (a b : Bool) (l : Lexed) → (cond a (cond b (answerOf (countedAfter 0 l)) (answer 2 1 maxText 0)) (answer 1 0 0 0) .code ≡ 0 → ⊥)
-      → cond a (cond b (recordedFrom 0 table l) table) table ≡ table
+      → cond a (cond b (recorded table l) table) table ≡ table
   by-tests false b l h = refl
   by-tests true false l h = refl
   by-tests true true (accepted ts) h = absurd (h refl)
@@ -86,7 +87,7 @@ module _ (text table : List ℕ) where
   kept h = by-tests (leb tableWords (length table)) (leb (length text) maxText) (lex text) h
 
   beyond-by : (a b : Bool) (l : Lexed) (i : ℕ) → cond a (cond b (answerOf (countedAfter 0 l)) (answer 2 1 maxText 0)) (answer 1 0 0 0) .detail * tokenWords ≤ i
-      → getD (cond a (cond b (recordedFrom 0 table l) table) table) i 0 ≡ getD table i 0
+      → getD (cond a (cond b (recorded table l) table) table) i 0 ≡ getD table i 0
   beyond-by false b l i h = refl
   beyond-by true false l i h = refl
   beyond-by true true (accepted ts) i h = sets-beyond (records ts) table 0 i (omega (arith, records-length ts))

@@ -86,7 +86,7 @@ arrow-next : (a b : ℕ) → isArrow a b ≡ true → b ≡ 0 → ⊥
 unfolding isArrow
 arrow-next a b t z = false≢true (sym (and-false (eqb a 45)) ∙ (rw z at t))
 
-mark-sized : (a : ℕ) (s : List ℕ) → Sized (suc (length s)) (markLexeme a (getD s 0 0))
+pub mark-sized : (a : ℕ) (s : List ℕ) → Sized (suc (length s)) (markLexeme a (getD s 0 0))
 unfolding markLexeme
 mark-sized a s =
     let b = getD s 0 0 in

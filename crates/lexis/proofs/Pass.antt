@@ -9,7 +9,8 @@ use native.Mathlib.Omega.{arith}
 use lib.ListN.{length, set, length-set}
 use Rattle.lexis.specs.Sizes.{maxTokens, recordWords}
 use Rattle.lexis.specs.Lexer.{Token, Lexed, accepted, refused, prepend, lex}
-use Rattle.lexis.specs.Answer.{records, countedAfter, recordedFrom, Recorded, Room}
+use Rattle.lexis.specs.Answer.{records, countedAfter}
+use Rattle.lexis.specs.Work.{recordedFrom, Recorded, Room}
 use Rattle.lexis.specs.Steps.{stepAt}
 use Rattle.lexis.specs.declared.cursor.Cursor.{Cursor}
 use Rattle.lexis.specs.declared.cursor.Record.{Record}

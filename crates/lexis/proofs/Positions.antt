@@ -1,16 +1,16 @@
 -- What stands at a position of a text, `drop at text`: a run lies within the text, the first byte, a word, a string.
-use mathlib.Core.Path.{_≡_, ap, _∙_}
+use mathlib.Core.Path.{_≡_, refl, ap, _∙_}
 use mathlib.Core.Bool.{Bool, true, false, cond}
 use mathlib.Core.List.{List, [], _∷_}
-use Prim.Native.Nat.{ℕ, suc, _+_, _-_, _≤_, zero-le, suc-le-suc}
-use native.Mathlib.Nat.{add-zero}
+use Prim.Native.Nat.{ℕ, zero, suc, _+_, _-_, _<_, _≤_, zero-le, suc-le-suc}
+use native.Mathlib.Nat.{add-zero, le-of-suc-le-suc}
 use native.Mathlib.Omega.{arith}
 use lib.Dec.{leb}
 use lib.ListN.{length, take, drop, getD, length-drop}
 use lib.Seq.{getD-drop}
 use borrow.Author.Tests.{eq-eqb, ne-eqb}
 use Rattle.lexis.specs.Sizes.{maxName, maxString}
-use Rattle.lexis.specs.Bytes.{isNamePart, isContent, spanLen}
+use Rattle.lexis.specs.Bytes.{isNamePart, isContent, spanLen, IsRun}
 use Rattle.lexis.specs.Words.{kindOfWord}
 use Rattle.lexis.specs.Lexeme.{wordLexeme, stringLexeme}
 use Rattle.lexis.specs.declared.token.Lexeme.the-variants.{Token, Fault}
@@ -24,6 +24,32 @@ pub span-le : (f : ℕ → Bool) (s : List ℕ) → spanLen f s ≤ length s
 unfolding spanLen
 span-le f [] = zero-le
 span-le f (x ∷ s) = span-le-cons (f x) (spanLen f s) (length s) (span-le f s)
+
+-- every byte of a run passes the test
+span-passes : (f : ℕ → Bool) (s : List ℕ) (i : ℕ) → i < spanLen f s → f (getD s i 0) ≡ true
+unfolding spanLen
+span-passes f [] i h = absurd (omega arith)
+span-passes f (x ∷ s) i h = go (f x) refl i h (λ j l. span-passes f s j l)
+  where
+    go : (b : Bool) → f x ≡ b → (i : ℕ) → i < cond b (suc (spanLen f s)) 0 → ((j : ℕ) → j < spanLen f s → f (getD s j 0) ≡ true)
+        → f (getD (x ∷ s) i 0) ≡ true
+    go true e zero h rest = e
+    go true e (suc i) h rest = rest i (le-of-suc-le-suc h)
+    go false e i h rest = absurd (omega arith)
+
+-- the byte after a run does not
+span-stops : (f : ℕ → Bool) (s : List ℕ) → spanLen f s < length s → f (getD s (spanLen f s) 0) ≡ false
+unfolding spanLen
+span-stops f [] h = absurd (omega arith)
+span-stops f (x ∷ s) h = go (f x) refl h (λ l. span-stops f s l)
+  where
+    go : (b : Bool) → f x ≡ b → cond b (suc (spanLen f s)) 0 < suc (length s) → (spanLen f s < length s → f (getD s (spanLen f s) 0) ≡ false)
+        → f (getD (x ∷ s) (cond b (suc (spanLen f s)) 0) 0) ≡ false
+    go true e h rest = rest (le-of-suc-le-suc h)
+    go false e h rest = e
+
+pub is-run : (f : ℕ → Bool) (s : List ℕ) → IsRun f s (spanLen f s)
+is-run f s = record { within = span-le f s; passes = span-passes f s; stops = span-stops f s }
 
 -- a run at `at` ends within the text
 pub span-in : (f : ℕ → Bool) (s : List ℕ) (at : ℕ) → at ≤ length s → at + spanLen f (drop at s) ≤ length s

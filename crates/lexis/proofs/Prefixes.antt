@@ -3,7 +3,7 @@ use mathlib.Core.Path.{_≡_, refl, sym, ap, _∙_}
 use mathlib.Core.Bool.{Bool, true, false, cond, _||_}
 use mathlib.Core.List.{List, [], _∷_}
 use Prim.Native.Nat.{ℕ, zero, suc, _+_, _-_, _≤_, min}
-use native.Mathlib.Nat.{sub-zero}
+use native.Mathlib.Nat.{sub-zero, le-refl}
 use native.Mathlib.Omega.{arith}
 use lib.Dec.{eqb}
 use lib.ListN.{take, drop}
@@ -23,7 +23,7 @@ span-cons : (b : Bool) (k l m : ℕ) → k ≡ min m l → cond b (suc k) 0 ≡ 
 span-cons true k l m e = omega arith
 span-cons false k l m e = omega arith
 
-span-take : (f : ℕ → Bool) (m : ℕ) (s : List ℕ) → spanLen f (take m s) ≡ min m (spanLen f s)
+pub span-take : (f : ℕ → Bool) (m : ℕ) (s : List ℕ) → spanLen f (take m s) ≡ min m (spanLen f s)
 unfolding spanLen
 span-take f zero s = omega arith
 span-take f (suc m) [] = omega arith
@@ -66,26 +66,26 @@ exp-take (suc (suc m)) (y ∷ (z ∷ s)) h =
     exp-cons (eqb y 101 || eqb y 69) g (digits (drop (1 + g) (y ∷ (z ∷ s)))) (digits (drop (1 + g) (y ∷ (z ∷ take m s)))) (suc m) (omega (arith, sign-small (z ∷ s)))
     (ap digits (drop-more g y (z ∷ take m s) ∙ drop-of-take g (suc m) (z ∷ s)) ∙ span-take isDigit (suc m - g) (drop g (z ∷ s)) ∙ ap (λ (l : List ℕ). min (suc m - g) (digits l)) (sym (drop-more g y (z ∷ s)))) h
 
-pub parts-take : (s : List ℕ) → partsOf (take (partsLen (partsOf s)) s) ≡ partsOf s
+-- the parts of a number are found in any part of the text that holds the number
+pub parts-take : (s : List ℕ) (m : ℕ) → partsLen (partsOf s) ≤ m → partsOf (take m s) ≡ partsOf s
 unfolding partsOf
-parts-take s =
+parts-take s m h =
     let w = digits s in
     let f = fracLen (drop w s) in
     let x = expLen (drop (w + f) s) in
-    let n = w + f + x in
-    let e : w ≡ 0 + spanLen isDigit (take n s) = omega (arith, span-take isDigit n s) in
-    let d1 : drop w (take n s) ≡ take (n - w) (drop w s) = drop-of-take w n s in
-    let d2 : drop (w + f) (take n s) ≡ take (n - (w + f)) (drop (w + f) s) = drop-of-take (w + f) n s in
-    let ef : f ≡ fracLen (drop w (take n s)) = sym (ap fracLen d1 ∙ frac-take (n - w) (drop w s) (omega arith)) in
-    let ex : x ≡ expLen (drop (w + f) (take n s)) = sym (ap expLen d2 ∙ exp-take (n - (w + f)) (drop (w + f) s) (omega arith)) in
-    sym (parts-front (take n s) w f x e ef ex)
+    let e : w ≡ 0 + spanLen isDigit (take m s) = omega (arith, span-take isDigit m s) in
+    let d1 : drop w (take m s) ≡ take (m - w) (drop w s) = drop-of-take w m s in
+    let d2 : drop (w + f) (take m s) ≡ take (m - (w + f)) (drop (w + f) s) = drop-of-take (w + f) m s in
+    let ef : f ≡ fracLen (drop w (take m s)) = sym (ap fracLen d1 ∙ frac-take (m - w) (drop w s) (omega arith)) in
+    let ex : x ≡ expLen (drop (w + f) (take m s)) = sym (ap expLen d2 ∙ exp-take (m - (w + f)) (drop (w + f) s) (omega arith)) in
+    sym (parts-front (take m s) w f x e ef ex)
 
 module _ (s : List ℕ) (at : ℕ) (p : Parts) (is : p ≡ partsOf (drop at s)) where
   len : at + partsLen p - at ≡ partsLen p
   len = omega arith
 
   own : p ≡ partsOf (take (partsLen p) (drop at s))
-  own = is ∙ sym (parts-take (drop at s)) ∙ ap (λ (q : Parts). partsOf (take (partsLen q) (drop at s))) (sym is)
+  own = is ∙ sym (parts-take (drop at s) (partsLen (partsOf (drop at s))) (le-refl _)) ∙ ap (λ (q : Parts). partsOf (take (partsLen q) (drop at s))) (sym is)
 
   -- the part of the text that is handed on as the number's bytes
   pub parts-own : p ≡ partsOf (take (at + partsLen p - at) (drop at s))

@@ -1,26 +1,39 @@
 -- What holds of the lexer, for every text and every table. Each claim follows in a few lines from the files below.
--- Relies on `Places` for the tokens, `Values` for numbers, `Answers` for the table.
+-- Relies on `Places` and `Longest` for the tokens, `Values` for numbers, `Answers` for the table.
 use mathlib.Core.Path.{_≡_, refl, subst}
+use mathlib.Core.Bool.{Bool}
 use mathlib.Core.List.{List}
 use Prim.Native.Nat.{ℕ, zero-le, _*_, _≤_, _<_}
 use native.Mathlib.Omega.{arith}
 use lib.ListN.{length, getD}
 use Rattle.lexis.specs.Sizes.{maxTokens, tokenWords}
+use Rattle.lexis.specs.Bytes.{spanLen, IsRun}
 use Rattle.lexis.specs.Number.{partsOf, reducedOf, IsReduced}
-use Rattle.lexis.specs.Lexer.{Token, Lexed, accepted, refused, lex, Placed, Kinded}
+use Rattle.lexis.specs.Lexer.{Token, Lexed, accepted, refused, lex, Placed, Longest, Kinded}
 use Rattle.lexis.specs.Answer.{tokensAnswer, tokensTable}
 use Rattle.lexis.proofs.Places.{Fine, fine}
+use Rattle.lexis.proofs.Longest.{longest}
+use Rattle.lexis.proofs.Positions.{is-run}
 use Rattle.lexis.proofs.Values.{is-reduced}
 use Rattle.lexis.proofs.Answers.{kept, beyond}
 
 all-fine : (text : List ℕ) (l : Lexed) → lex text ≡ l → Fine text 0 0 l
-all-fine text l e = subst (Fine text 0 0) e (fine text 0 0 0 0 text refl zero-le zero-le zero-le)
+all-fine text l e = subst (Fine text 0 0) e (fine text 0 0 0 text refl zero-le zero-le zero-le)
 
 -- ---- tokens
 
--- tokens stand in the text one after the other, and their bytes are the text's own
+-- The tokens stand in the text one after the other. Between them, before the first and after the last stand only white space and comments.
+-- Each has its kind and its length by `lexeme`, and its bytes are the text's own.
 pub placed : (text : List ℕ) (ts : List Token) → lex text ≡ accepted ts → Placed text 0 ts
 placed text ts e = all-fine text (accepted ts) e .0
+
+-- each is the longest: no longer piece of the text from its start is one token
+pub longest-match : (text : List ℕ) (ts : List Token) → lex text ≡ accepted ts → Longest text ts
+longest-match text ts e = longest text ts (placed text ts e)
+
+-- the runs of which names, strings, numbers and gaps are made are the longest: every byte in one passes, and the one after it does not
+pub longest-run : (f : ℕ → Bool) (s : List ℕ) → IsRun f s (spanLen f s)
+longest-run f s = is-run f s
 
 -- there are at most 4096
 pub few : (text : List ℕ) (ts : List Token) → lex text ≡ accepted ts → length ts ≤ maxTokens

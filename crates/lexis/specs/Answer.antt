@@ -1,12 +1,11 @@
 -- What `tokens` answers, and every word of the table afterwards. Relies on `Sizes` and `Code` for the numbers, on `Lexer` for the tokens.
-use Prim.Native.Nat.{ℕ, _+_, _*_, _≤_}
-use mathlib.Core.Path.{_≡_}
+use Prim.Native.Nat.{ℕ, _+_}
 use mathlib.Core.Bool.{cond}
 use mathlib.Core.List.{List, [], _∷_}
 use lib.Dec.{leb}
 use lib.ListN.{length}
 use lib.Seq.{sets}
-use Rattle.lexis.specs.Sizes.{maxText, maxTokens, recordWords, tableWords}
+use Rattle.lexis.specs.Sizes.{maxText, tableWords}
 use Rattle.lexis.specs.Code as Code
 use Rattle.lexis.specs.Lexer.{Token, Lexed, accepted, refused, lex}
 use Rattle.lexis.specs.declared.Answer.{Answer}
@@ -36,14 +35,10 @@ abbrev pub answerOf : Counted → Answer
 answerOf (Tokens n) = answer Code.accepted 0 0 n
 answerOf (Fault c p) = answer c 1 p 0
 
--- the table with the records stored from the word `at` on; a refusal stores nothing
-abbrev pub recordedFrom : ℕ → List ℕ → Lexed → List ℕ
-recordedFrom at table (accepted ts) = sets table at (records ts)
-recordedFrom at table (refused c p) = table
-
--- the table with the records stored in front
+-- the table with the records stored in front; a refusal stores nothing
 abbrev pub recorded : List ℕ → Lexed → List ℕ
-recorded table l = recordedFrom 0 table l
+recorded table (accepted ts) = sets table 0 (records ts)
+recorded table (refused c p) = table
 
 -- what `tokens` answers: code 1 for a short table, at 0 and in no text; code 2 for a long text, at 16384; then what the bytes give
 unfoldable pub tokensAnswer : List ℕ → List ℕ → Answer
@@ -56,13 +51,3 @@ unfoldable pub tokensTable : List ℕ → List ℕ → List ℕ
 tokensTable text table =
     let r = recorded table (lex text) in
     cond (leb tableWords (length table)) (cond (leb (length text) maxText) r table) table
-
--- what a lexer that writes as it goes leaves in a work area: the records in front on acceptance, anything of the same length on a fault
-abbrev pub Recorded : Lexed → List ℕ → List ℕ → Type 0
-Recorded (accepted ts) before after = after ≡ sets before 0 (records ts)
-Recorded (refused c p) before after = length after ≡ length before
-
--- what is counted has room in m words
-abbrev pub Room : Counted → ℕ → Type 0
-Room (Tokens n) m = (n ≤ maxTokens) × (n * recordWords ≤ m)
-Room (Fault c p) m = Unit {0}

@@ -1,5 +1,5 @@
 -- The tokens of a whole text, or its first fault. Relies on `Sizes` for the number of tokens, `Bytes` for gaps, `Lexeme` for a token.
-use Prim.Native.Nat.{ℕ, zero, suc, pred, _+_, _≤_}
+use Prim.Native.Nat.{ℕ, zero, suc, pred, _+_, _<_, _≤_}
 use mathlib.Core.Path.{_≡_}
 use mathlib.Core.Bool.{cond}
 use mathlib.Core.List.{List, [], _∷_}
@@ -54,12 +54,24 @@ lex text = lexFrom 0 0 0 text
 
 -- ---- what the theorems claim of tokens
 
--- Tokens in their places: from the position `at` on each starts at or after the end of the one before, has at least one byte, lies in
--- the text, and its bytes are the text's own there.
+-- Tokens in their places, from the position `at` on. Before each token and after the last stands a gap, which is white space and comments
+-- and nothing else. Each token is the one that `lexeme` finds at the front of the text there: it has at least one byte, lies in the text,
+-- and its bytes are the text's own.
 pub data Placed (text : List ℕ) : ℕ → List Token → Type 0 where
-  none : {at : ℕ} → Placed text at []
-  next : {at : ℕ} {t : Token} {ts : List Token} → at ≤ t .start → 1 ≤ length (t .bytes) → t .start + length (t .bytes) ≤ length text
+  none : {at : ℕ} → at + gapLen (drop at text) ≡ length text → Placed text at []
+  next : {at : ℕ} {t : Token} {ts : List Token} → t .start ≡ at + gapLen (drop at text)
+      → lexeme (drop (t .start) text) ≡ L.Token (t .kind) (length (t .bytes)) → 1 ≤ length (t .bytes) → t .start + length (t .bytes) ≤ length text
       → t .bytes ≡ take (length (t .bytes)) (drop (t .start) text) → Placed text (t .start + length (t .bytes)) ts → Placed text at (t ∷ ts)
+
+-- the bytes w, all of them, are one token
+abbrev pub IsToken : List ℕ → Type 0
+IsToken w = (k : ℕ) × (lexeme w ≡ L.Token k (length w))
+
+-- the longest match: no longer piece of the text that starts where a token starts is one token
+abbrev pub Longest : List ℕ → List Token → Type 0
+Longest text [] = Unit {0}
+Longest text (t ∷ ts) =
+    ((m : ℕ) → length (t .bytes) < m → t .start + m ≤ length text → IsToken (take m (drop (t .start) text)) → ⊥) × Longest text ts
 
 -- every token is of one of the eight kinds
 abbrev pub Kinded : List Token → Type 0

@@ -289,7 +289,7 @@ pub const CLASSES: [u8; 256] = [
 ];
 
 // The class of a byte, 0 where it begins nothing.
-pub fn class_of(classes: &[u8; 256], b: u8) -> u8
+pub(crate) fn class_of(classes: &[u8; 256], b: u8) -> u8
     requires { ⌜ now classes ≡ classTable ⌝ }
     ensures { λ r. ⌜ r ≡ classOf b ⌝ }
 {

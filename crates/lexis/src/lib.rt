@@ -20,10 +20,11 @@ ghost use mathlib.Core.Path.{_≡_};
 ghost use lib.Seq.{paste};
 ghost use Prim.Native.Nat.{_*_, _≤_, min};
 ghost use lib.ListN.{length};
-ghost use Rattle.lexis.specs.Answer.{tokensAnswer, tokensTable, counted, answerOf, recorded, Recorded, Room};
+ghost use Rattle.lexis.specs.Answer.{tokensAnswer, tokensTable, counted, answerOf, recorded};
 ghost use Rattle.lexis.specs.Bytes.{classTable};
 ghost use Rattle.lexis.specs.Lexer.{lex};
 ghost use Rattle.lexis.specs.Sizes.{maxText, maxTokens, recordWords, tokenWords, tableWords};
+ghost use Rattle.lexis.specs.Work.{Recorded, Room};
 
 // The four numbers of an answer.
 #[repr(C)]

@@ -300,7 +300,7 @@ fn in_range(classes: &[u8; 256], w: &[u8], p: Parts) -> bool
 }
 
 // A number at `at`.
-pub fn number_at(classes: &[u8; 256], text: &[u8], at: usize) -> Lexeme
+pub(crate) fn number_at(classes: &[u8; 256], text: &[u8], at: usize) -> Lexeme
     requires { ⌜ now classes ≡ classTable ⌝ }
     requires { ⌜ at < length (now text) ⌝ }
     ensures { λ r. ⌜ r ≡ numberLexeme (drop at (now (text .entry))) ⌝ }

@@ -2,6 +2,8 @@
 use crate::kind::Kind;
 ghost use mathlib.Core.Path.{_≡_};
 ghost use mathlib.Core.Bool.{cond};
+ghost use lib.ListN.{getD};
+ghost use Rattle.lexis.specs.Ascii.{byte};
 ghost use Rattle.lexis.specs.Kind.{name};
 ghost use Rattle.lexis.specs.Words.{sameBytes, kindOfWord};
 
@@ -32,94 +34,95 @@ fn kind_if(w: &[u8], spelling: &[u8], kind: u8) -> u8
     Kind::NAME
 }
 
-// The kind of a word. Its first byte and its length leave one or two words to compare it with.
-pub fn kind_of_word(w: &[u8]) -> u8
+// The kind of a word, which is compared with the words of its first byte.
+pub(crate) fn kind_of_word(w: &[u8]) -> u8
     ensures { λ r. ⌜ r ≡ kindOfWord (now (w .entry)) ⌝ }
 {
-    let n = w.len();
-    if n == 0 {
+    if w.len() == 0 {
         return Kind::NAME;
     }
-    let first = w[0];
-    match first {
-        b't' => {
-            if n == 4 {
-                return kind_if(w, b"true", Kind::TRUTH);
-            }
-            if n == 6 {
-                return kind_if(w, b"tensor", Kind::KEYWORD);
-            }
-            Kind::NAME
-        }
-        b'f' => {
-            if n == 5 {
-                return kind_if(w, b"false", Kind::TRUTH);
-            }
-            if n == 8 {
-                return kind_if(w, b"fragment", Kind::KEYWORD);
-            }
-            if n == 3 {
-                return kind_if(w, b"for", Kind::KEYWORD);
-            }
-            Kind::NAME
-        }
-        b'g' => {
-            if n == 5 {
-                return kind_if(w, b"graph", Kind::KEYWORD);
-            }
-            Kind::NAME
-        }
-        b'e' => {
-            if n == 6 {
-                return kind_if(w, b"extent", Kind::KEYWORD);
-            }
-            if n == 4 {
-                return kind_if(w, b"else", Kind::KEYWORD);
-            }
-            Kind::NAME
-        }
-        b's' => {
-            if n == 6 {
-                if same(w, b"scalar") {
-                    return Kind::KEYWORD;
-                }
-                return kind_if(w, b"string", Kind::KEYWORD);
-            }
-            if n == 8 {
-                return kind_if(w, b"shape_of", Kind::KEYWORD);
-            }
-            Kind::NAME
-        }
-        b'l' => {
-            if n == 7 {
-                return kind_if(w, b"logical", Kind::KEYWORD);
-            }
-            if n == 9 {
-                return kind_if(w, b"length_of", Kind::KEYWORD);
-            }
-            Kind::NAME
-        }
-        b'r' => {
-            if n == 8 {
-                return kind_if(w, b"range_of", Kind::KEYWORD);
-            }
-            Kind::NAME
-        }
-        b'i' => {
-            if n == 2 {
-                if same(w, b"in") {
-                    return Kind::KEYWORD;
-                }
-                return kind_if(w, b"if", Kind::KEYWORD);
-            }
-            Kind::NAME
-        }
-        b'v' => {
-            if n == 7 {
-                return kind_if(w, b"version", Kind::KEYWORD);
-            }
-            Kind::NAME
-        }
+    match w[0] {
+        b't' => kind_t(w),
+        b'f' => kind_f(w),
+        b'g' => kind_if(w, b"graph", Kind::KEYWORD),
+        b'e' => kind_e(w),
+        b's' => kind_s(w),
+        b'l' => kind_l(w),
+        b'r' => kind_if(w, b"range_of", Kind::KEYWORD),
+        b'i' => kind_i(w),
+        b'v' => kind_if(w, b"version", Kind::KEYWORD),
         _ => Kind::NAME,
     }
+}
+
+// The kind of a word that begins with t.
+fn kind_t(w: &[u8]) -> u8
+    requires { ⌜ getD (now w) 0 0 ≡ byte "t" ⌝ }
+    ensures { λ r. ⌜ r ≡ kindOfWord (now (w .entry)) ⌝ }
+{
+    if same(w, b"true") {
+        return Kind::TRUTH;
+    }
+    kind_if(w, b"tensor", Kind::KEYWORD)
+}
+
+// The kind of a word that begins with f.
+fn kind_f(w: &[u8]) -> u8
+    requires { ⌜ getD (now w) 0 0 ≡ byte "f" ⌝ }
+    ensures { λ r. ⌜ r ≡ kindOfWord (now (w .entry)) ⌝ }
+{
+    if same(w, b"false") {
+        return Kind::TRUTH;
+    }
+    if same(w, b"fragment") {
+        return Kind::KEYWORD;
+    }
+    kind_if(w, b"for", Kind::KEYWORD)
+}
+
+// The kind of a word that begins with e.
+fn kind_e(w: &[u8]) -> u8
+    requires { ⌜ getD (now w) 0 0 ≡ byte "e" ⌝ }
+    ensures { λ r. ⌜ r ≡ kindOfWord (now (w .entry)) ⌝ }
+{
+    if same(w, b"extent") {
+        return Kind::KEYWORD;
+    }
+    kind_if(w, b"else", Kind::KEYWORD)
+}
+
+// The kind of a word that begins with s.
+fn kind_s(w: &[u8]) -> u8
+    requires { ⌜ getD (now w) 0 0 ≡ byte "s" ⌝ }
+    ensures { λ r. ⌜ r ≡ kindOfWord (now (w .entry)) ⌝ }
+{
+    if same(w, b"scalar") {
+        return Kind::KEYWORD;
+    }
+    if same(w, b"string") {
+        return Kind::KEYWORD;
+    }
+    kind_if(w, b"shape_of", Kind::KEYWORD)
+}
+
+// The kind of a word that begins with l.
+fn kind_l(w: &[u8]) -> u8
+    requires { ⌜ getD (now w) 0 0 ≡ byte "l" ⌝ }
+    ensures { λ r. ⌜ r ≡ kindOfWord (now (w .entry)) ⌝ }
+{
+    if same(w, b"logical") {
+        return Kind::KEYWORD;
+    }
+    kind_if(w, b"length_of", Kind::KEYWORD)
+}
+
+// The kind of a word that begins with i.
+fn kind_i(w: &[u8]) -> u8
+    requires { ⌜ getD (now w) 0 0 ≡ byte "i" ⌝ }
+    ensures { λ r. ⌜ r ≡ kindOfWord (now (w .entry)) ⌝ }
+{
+    if same(w, b"in") {
+        return Kind::KEYWORD;
+    }
+    kind_if(w, b"if", Kind::KEYWORD)
 }

@@ -40,14 +40,14 @@ module _ (text table : List ℕ) where
 
   from-is : {at : ℕ} (i : ℕ) (ts : List Token) (after : List ℕ) → Placed text at ts → drop (i * recordWords) table ≡ records ts ++ after → tokensFrom text table i (length ts) ≡ ts
   unfolding tokensFrom records
-  from-is i [] after none e = refl
-  from-is i (t ∷ ts) after (next l p q r w) e =
+  from-is i [] after (none g) e = refl
+  from-is i (t ∷ ts) after (next g f p q r w) e =
       ap₂ (λ (x : Token) (xs : List Token). x ∷ xs) (token-is i t (records ts ++ after) e r) (from-is (i + 1) ts after w (next-tail table i _ _ _ _ e))
 
   within-is : {at : ℕ} (i : ℕ) (ts : List Token) (after : List ℕ) → Placed text at ts → drop (i * recordWords) table ≡ records ts ++ after → (j : ℕ) → i ≤ j → j < i + length ts → (startAt table j < endAt table j) × (endAt table j ≤ length text)
   unfolding records
-  within-is i [] after none e j l u = absurd (omega arith)
-  within-is i (t ∷ ts) after (next o p q r w) e j l u = go (eq-or-lt-of-le l) (λ z. within-is (i + 1) ts after w (next-tail table i _ _ _ _ e) j (omega arith) (omega arith))
+  within-is i [] after (none g) e j l u = absurd (omega arith)
+  within-is i (t ∷ ts) after (next g f p q r w) e j l u = go (eq-or-lt-of-le l) (λ z. within-is (i + 1) ts after w (next-tail table i _ _ _ _ e) j (omega arith) (omega arith))
     where
       go : (i ≡ j) ⊎ (i < j) → (i < j → (startAt table j < endAt table j) × (endAt table j ≤ length text)) → (startAt table j < endAt table j) × (endAt table j ≤ length text)
       go (inl z) f =

@@ -8,7 +8,8 @@ use lib.Dec.{leb}
 use lib.ListN.{length}
 use borrow.Author.Tests.{leb-true, leb-false}
 use Rattle.lexis.specs.Lexer.{Token, Lexed, accepted, refused, lex}
-use Rattle.lexis.specs.Answer.{Recorded, Room, counted}
+use Rattle.lexis.specs.Answer.{counted}
+use Rattle.lexis.specs.Work.{Recorded, Room}
 use Rattle.lexis.specs.Sizes.{recordWords}
 use Rattle.lexis.specs.declared.Counted.{Counted}
 use Rattle.lexis.specs.declared.Counted.the-variants as C

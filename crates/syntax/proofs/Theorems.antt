@@ -1,14 +1,14 @@
 -- The parser and the grammar agree. Whoever reads the grammar (`specs/Grammar`) and what the place of a fault means (`specs/Fault`) need
 -- not read the parser: these statements say what it answers. b is the bracket limit: 8 for whole texts, and any other here.
 -- Assumes nothing.
-use mathlib.Core.Path.{_≡_, refl}
+use mathlib.Core.Path.{_≡_}
 use mathlib.Core.List.{List, []}
 use Prim.Native.Nat.{ℕ}
 use Rattle.lexis.specs.Lexer.{Token}
 use Rattle.syntax.specs.Tree.{Header, Document}
 use Rattle.syntax.specs.Grammar.{IsList, IsDocument}
 use Rattle.syntax.specs.Fault.{FirstFault}
-use Rattle.syntax.specs.Parser.{expect, operations, document}
+use Rattle.syntax.specs.Parser.{operations, document}
 use Rattle.syntax.specs.Parser.Parse.{ok, bad}
 use Rattle.syntax.proofs.Whole.{lists, documents, sound, all-read, one-tree, fault, exact}
 
@@ -49,13 +49,3 @@ list-fault-given = exact lists
 
 pub document-fault-given : (b c : ℕ) (ts us : List Token) → FirstFault (λ b ts. (d : Document) × IsDocument b ts d) b c ts us → document b ts ≡ bad c us
 document-fault-given = exact documents
-
--- ---- P1: the empty text is an operation list, and no document
-
-pub empty-list : operations 8 [] ≡ ok [] []
-unfolding operations
-empty-list = refl
-
-pub empty-document : document 8 [] ≡ bad 9 []
-unfolding document expect
-empty-document = refl

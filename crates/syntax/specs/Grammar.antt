@@ -30,11 +30,13 @@ pub data Separated {A : Type 0} (Item : List Token → A → List Token → Type
 pub data Leaves : Type 0 where
   names literals both : Leaves
 
+-- a value with these leaves may hold names
 abbrev pub takesNames : Leaves → Bool
 takesNames names = true
 takesNames literals = false
 takesNames both = true
 
+-- a value with these leaves may hold literals
 abbrev pub takesLiterals : Leaves → Bool
 takesLiterals names = false
 takesLiterals literals = true
@@ -78,6 +80,7 @@ mutual
     a-tuple-type : {b : ℕ} {o c : Token} {ts us ws xs : List Token} {w u : Ty} {vs : Tys}
         → symOf o ≡ leftRound → IsType b ts w (c ∷ us) → symOf c ≡ comma → IsTypes b us vs ws → Dims (suc b) ws (tupleOf (a-type w vs)) u xs → IsType (suc b) (o ∷ ts) u xs
 
+  -- types parted by commas, and the closing bracket
   pub data IsTypes : ℕ → List Token → Tys → List Token → Type 0 where
     last-type : {b : ℕ} {c : Token} {ts us : List Token} {u : Ty} → IsType b ts u (c ∷ us) → symOf c ≡ rightRound → IsTypes b ts (a-type u no-type) us
     next-type : {b : ℕ} {c : Token} {ts us ws : List Token} {u : Ty} {vs : Tys} → IsType b ts u (c ∷ us) → symOf c ≡ comma → IsTypes b us vs ws → IsTypes b ts (a-type u vs) ws

@@ -4,8 +4,10 @@ use mathlib.Core.List.{List, [], _∷_}
 use Prim.Native.Nat.{ℕ, zero, suc}
 use lib.Dec.{eqb}
 use Rattle.lexis.specs.Sizes.{maxBrackets}
+use Rattle.lexis.specs.Ascii.{ascii}
+use Rattle.lexis.specs.Words.{sameBytes}
 use Rattle.lexis.specs.Lexer.{Token}
-use Rattle.syntax.specs.Symbol.{symOf, isLiteral, leftRound, rightRound, leftSquare, leftCurly, rightCurly, equal, semicolon, arrow, aName, aNumber, version, graph, tensorWord, extentWord, scalarWord, logicalWord, stringWord}
+use Rattle.syntax.specs.Symbol.{symOf, isLiteral, other, leftRound, rightRound, leftSquare, leftCurly, rightCurly, equal, semicolon, arrow, aName, aNumber, version, graph, tensorWord, extentWord, scalarWord, logicalWord, stringWord}
 use Rattle.syntax.specs.Tree.{Ty, Param, Result, Arg, Call}
 use Rattle.syntax.specs.Grammar.{Leaves, names, literals, both, takesNames, takesLiterals}
 use Rattle.syntax.specs.Parser.{Reader, then, expect, begins, rest, plain, commas, closed, row, tupleTypes, baseStep, type, param, result, argument, call}
@@ -23,7 +25,16 @@ use Rattle.syntax.specs.declared.list.Item.the-variants as W
 abbrev pub theEnd : ℕ
 theEnd = 267
 
--- the terminal of the first token
+-- the terminal of a type's name, by its spelling
+unfoldable pub typeSymbol : List ℕ → ℕ
+typeSymbol w =
+    cond (sameBytes w (ascii "tensor")) tensorWord
+    (cond (sameBytes w (ascii "extent")) extentWord
+    (cond (sameBytes w (ascii "scalar")) scalarWord
+    (cond (sameBytes w (ascii "logical")) logicalWord
+    (cond (sameBytes w (ascii "string")) stringWord other))))
+
+-- the terminal of the first token, or that of no token
 abbrev pub lookahead : List Token → ℕ
 lookahead [] = theEnd
 lookahead (t ∷ ts) = symOf t
@@ -37,19 +48,23 @@ onwards (Fault c q) k = Fault c q
 
 -- ---- values
 
+-- the leaves that the code names, as the grammar names them
 abbrev pub leavesOf : L.Leaves → Leaves
 leavesOf Names = names
 leavesOf Literals = literals
 leavesOf Both = both
 
+-- the terminal s is a leaf of such a value
 unfoldable pub isLeaf : Leaves → ℕ → Bool
 isLeaf m s = takesNames m && eqb s aName || takesLiterals m && isLiteral s
 
+-- the terminal s opens an array or a tuple
 abbrev pub opens : ℕ → Bool
 opens s = eqb s leftSquare || eqb s leftRound
 
 -- ---- types
 
+-- the terminal s is a type's name
 unfoldable pub isTypeWord : ℕ → Bool
 isTypeWord s = cond (eqb s tensorWord) true (cond (eqb s extentWord) true (cond (eqb s scalarWord) true (cond (eqb s logicalWord) true (eqb s stringWord))))
 
@@ -64,13 +79,14 @@ baseOf (suc b) ts = baseStep (λ t us. tupleTypes (type b) us) ts
 abbrev pub isLabel : List Token → Bool
 isLabel ts = eqb (lookahead ts) aName && eqb (lookahead (rest ts)) equal
 
--- the trees of a list's items, and their reader
+-- the trees of a list's items
 abbrev pub TreeOf : I.Item → Type 0
 TreeOf W.Name = Token
 TreeOf W.Parameter = Param
 TreeOf W.Result = Result
 TreeOf W.Argument = Arg
 
+-- the reader of one item of a list
 abbrev pub reader : (w : I.Item) → Reader (TreeOf w)
 reader W.Name = expect aName
 reader W.Parameter = param maxBrackets
@@ -79,6 +95,7 @@ reader W.Argument = argument maxBrackets
 
 -- ---- documents
 
+-- a semicolon, where there is one
 abbrev pub semicolonOf : Reader (List Token)
 semicolonOf ts = ok [] (cond (begins semicolon ts) (rest ts) ts)
 
@@ -92,7 +109,7 @@ inputsOf ts =
     then (expect leftRound us) (λ o us.
     row plain (commas rightRound) (expect aName) us)))))
 
--- and all that follows, up to the closing bracket
+-- a document up to its closing bracket
 unfoldable pub graphOf : Reader (List Call)
 graphOf ts =
     then (inputsOf ts) (λ is us.

@@ -21,10 +21,12 @@ use Rattle.syntax.specs.Grammar.{Leaves, names, literals, both, takesNam
 
 -- ---- parts
 
+-- what a reader answers: a tree and the tokens after it, or the code of a fault and the tokens from it on
 pub data Parse (A : Type 0) : Type 0 where
   ok : A → List Token → Parse A
   bad : ℕ → List Token → Parse A
 
+-- on from what was read; a fault stays
 abbrev pub then : {A B : Type 0} → Parse A → (A → List Token → Parse B) → Parse B
 then (ok a ts) k = k a ts
 then (bad c ts) k = bad c ts
@@ -47,6 +49,7 @@ abbrev pub begins : ℕ → List Token → Bool
 begins s [] = false
 begins s (t ∷ ts) = eqb (symOf t) s
 
+-- the tokens after the first
 abbrev pub rest : List Token → List Token
 rest [] = []
 rest (t ∷ ts) = ts
@@ -65,6 +68,7 @@ pub data Follow : Type 0 where
   done : List Token → Follow
   neither : Follow
 
+-- what follows an item of a row, by the tokens after it
 unfoldable pub follow : Row → List Token → Follow
 follow (commas close) [] = neither
 follow (commas close) (t ∷ ts) = cond (eqb (symOf t) comma) (again ts) (cond (eqb (symOf t) close) (done ts) neither)
@@ -73,6 +77,7 @@ follow (closed close) (t ∷ ts) = cond (eqb (symOf t) close) (done ts) (again (
 follow to-the-end [] = done []
 follow to-the-end (t ∷ ts) = again (t ∷ ts)
 
+-- on from what follows an item: k goes on with the next item, j ends the row; neither is a fault
 abbrev pub onward : {A : Type 0} → Follow → List Token → (List Token → Parse A) → (List Token → Parse A) → Parse A
 onward (again ws) us k j = k ws
 onward (done ws) us k j = j ws
@@ -83,21 +88,25 @@ pub record Lists (A L : Type 0) : Type 0 where
   pub one : A → L
   pub cons : A → L → L
 
+-- the items of an ordinary list
 abbrev pub plain : {A : Type 0} → Lists A (List A)
 plain = record { one = λ a. a ∷ []; cons = λ a xs. a ∷ xs }
 
+-- the items of an array or a tuple
 abbrev pub values : Lists Value Values
 values = record { one = λ v. more v none; cons = λ v vs. more v vs }
 
+-- the types of a tuple
 abbrev pub types : Lists Ty Tys
 types = record { one = λ u. a-type u no-type; cons = λ u us. a-type u us }
 
--- one item or more. Each takes a token, so as many as there are tokens, and one for the fault, are enough.
+-- one item or more, at most f of them
 unfoldable pub rowF : {A L : Type 0} → ℕ → Lists A L → Row → Reader A → Reader L
 rowF zero l r item ts = bad 0 []
 rowF (suc f) l r item ts =
     then (item ts) (λ a us. onward (follow r us) us (λ ws. mapped (l .cons a) (rowF f l r item ws)) (λ ws. ok (l .one a) ws))
 
+-- one item or more. Each takes a token, so as many as there are tokens, and one for the fault, are enough.
 unfoldable pub row : {A L : Type 0} → Lists A L → Row → Reader A → Reader L
 row l r item ts = rowF (suc (length ts)) l r item ts
 
@@ -119,6 +128,7 @@ arrayItems val ts = cond (begins rightSquare ts) (ok none (rest ts)) (row values
 unfoldable pub tupleItems : Reader Value → Reader Values
 tupleItems val ts = then (val ts) (λ v us. then (expect comma us) (λ c ws. mapped (more v) (row values (commas rightRound) val ws)))
 
+-- an array or a tuple, after its opening bracket t
 unfoldable pub bracketed : Reader Value → Token → Reader Value
 bracketed val t ts = cond (eqb (symOf t) leftSquare) (mapped (array t) (arrayItems val ts)) (mapped (tuple t) (tupleItems val ts))
 
@@ -129,6 +139,7 @@ value m (suc b) ts = valueStep m (λ t us. bracketed (λ ws. value m b ws) t us)
 
 -- ---- types
 
+-- the type that the terminal s names, if it names one
 unfoldable pub typeName : ℕ → Option Ty
 typeName s =
     cond (eqb s tensorWord) (some tensor)
@@ -160,15 +171,18 @@ unfoldable pub baseStep : (Token → Reader Ty) → Reader Ty
 baseStep opened [] = bad Code.syntax []
 baseStep opened (t ∷ ts) = cond (eqb (symOf t) leftRound) (opened t ts) (named-type (typeName (symOf t)) t ts)
 
+-- a type and its pairs of square brackets; where no bracket may be opened, an opening one is a fault
 unfoldable pub type : ℕ → Reader Ty
 type zero ts = then (baseStep (λ t us. bad Code.bracket (t ∷ us)) ts) (dims false)
 type (suc b) ts = then (baseStep (λ t us. tupleTypes (λ ws. type b ws) us) ts) (dims true)
 
 -- ---- operation lists
 
+-- `=` and a value without names, where there is one
 unfoldable pub default : ℕ → Reader (Option Value)
 default b ts = cond (begins equal ts) (mapped some (value literals b (rest ts))) (ok nothing ts)
 
+-- a name, a colon, a type, and perhaps a default
 unfoldable pub param : ℕ → Reader Param
 param b ts =
     then (expect aName ts) (λ n us.
@@ -176,12 +190,14 @@ param b ts =
     then (type b us) (λ u us.
     mapped (λ d. record { name = n; ty = u; default = d }) (default b us))))
 
+-- a name, a colon and a type
 unfoldable pub result : ℕ → Reader Result
 result b ts =
     then (expect aName ts) (λ n us.
     then (expect colon us) (λ c us.
     mapped (λ u. record { name = n; ty = u }) (type b us)))
 
+-- the word `fragment`, a name, parameters, an arrow and results
 unfoldable pub header : ℕ → Reader Header
 header b ts =
     then (expect fragment ts) (λ f us.
@@ -199,7 +215,7 @@ operations b (t ∷ ts) = row plain to-the-end (header b) (t ∷ ts)
 
 -- ---- documents
 
--- a value is an argument, and so is a name with `=` and a value
+-- what the value v is as an argument: where it is a name with `=` after it, the name of a parameter, and a value follows
 abbrev pub labelled : Value → Bool → ℕ → Reader Arg
 labelled (name t) true b us = mapped (named t) (value both b (rest us))
 labelled (name t) false b us = ok (positional (name t)) us
@@ -207,6 +223,7 @@ labelled (literal t) e b us = ok (positional (literal t)) us
 labelled (array t vs) e b us = ok (positional (array t vs)) us
 labelled (tuple t vs) e b us = ok (positional (tuple t vs)) us
 
+-- a value, or a name with `=` and a value
 unfoldable pub argument : ℕ → Reader Arg
 argument b ts = then (value both b ts) (λ v us. labelled v (begins equal us) b us)
 
@@ -218,6 +235,7 @@ left b (t ∷ ts) =
     cond (begins equal us) (ok v (rest us))
     (then (expect comma us) (λ c ws. mapped (λ vs. tuple t (more v vs)) (row values (commas equal) (value names b) ws))))
 
+-- a left side, an operation's name, arguments, and perhaps a semicolon
 unfoldable pub call : ℕ → Reader Call
 call b ts =
     then (left b ts) (λ v us.
@@ -231,6 +249,7 @@ abbrev pub atEnd : {A : Type 0} → A → Reader A
 atEnd a [] = ok a []
 atEnd a (t ∷ ts) = bad Code.syntax (t ∷ ts)
 
+-- a version, a graph's name, inputs and outputs, calls in curly brackets, and the end
 unfoldable pub document : ℕ → Reader Document
 document b ts =
     then (expect version ts) (λ v us.
@@ -248,9 +267,10 @@ document b ts =
 
 -- ---- whole texts
 
--- an operation list, and a document, with at most eight brackets open at once
+-- an operation list with at most eight brackets open at once
 abbrev pub parseList : Reader (List Header)
 parseList ts = operations maxBrackets ts
 
+-- a document with at most eight brackets open at once
 abbrev pub parseDocument : Reader Document
 parseDocument ts = document maxBrackets ts

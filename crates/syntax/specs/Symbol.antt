@@ -10,78 +10,103 @@ use Rattle.lexis.specs.Kind as Kind
 use Rattle.lexis.specs.Words.{sameBytes}
 use Rattle.lexis.specs.Lexer.{Token}
 
--- ---- the numbers
+-- ---- none
 
 -- a token that the flat syntax has no place for: an operator, or a keyword that is not named below
 abbrev pub other : ℕ
 other = 0
 
--- the syntactic characters ( ) [ ] { } : = , ; and ->
+-- ---- the syntactic characters
+
+-- (
 abbrev pub leftRound : ℕ
 leftRound = 40
 
+-- )
 abbrev pub rightRound : ℕ
 rightRound = 41
 
+-- [
 abbrev pub leftSquare : ℕ
 leftSquare = 91
 
+-- ]
 abbrev pub rightSquare : ℕ
 rightSquare = 93
 
+-- {
 abbrev pub leftCurly : ℕ
 leftCurly = 123
 
+-- }
 abbrev pub rightCurly : ℕ
 rightCurly = 125
 
+-- :
 abbrev pub colon : ℕ
 colon = 58
 
+-- =
 abbrev pub equal : ℕ
 equal = 61
 
+-- ,
 abbrev pub comma : ℕ
 comma = 44
 
+-- ;
 abbrev pub semicolon : ℕ
 semicolon = 59
 
+-- ->
 abbrev pub arrow : ℕ
 arrow = 45
 
--- a name; a number, whole or real; a string or a truth value
+-- ---- names and literals
+
+-- a name
 abbrev pub aName : ℕ
 aName = 256
 
+-- a number, whole or real
 abbrev pub aNumber : ℕ
 aNumber = 257
 
+-- a string or a truth value
 abbrev pub aLiteral : ℕ
 aLiteral = 258
 
--- the keywords of the flat syntax
+-- ---- the keywords of the flat syntax
+
+-- the word `version`
 abbrev pub version : ℕ
 version = 259
 
+-- the word `graph`
 abbrev pub graph : ℕ
 graph = 260
 
+-- the word `fragment`
 abbrev pub fragment : ℕ
 fragment = 261
 
+-- the word `tensor`
 abbrev pub tensorWord : ℕ
 tensorWord = 262
 
+-- the word `extent`
 abbrev pub extentWord : ℕ
 extentWord = 263
 
+-- the word `scalar`
 abbrev pub scalarWord : ℕ
 scalarWord = 264
 
+-- the word `logical`
 abbrev pub logicalWord : ℕ
 logicalWord = 265
 
+-- the word `string`
 abbrev pub stringWord : ℕ
 stringWord = 266
 
@@ -110,6 +135,7 @@ symbolOf k w =
     (cond (eqb k Kind.keyword) (keywordSymbol w)
     (cond (eqb k Kind.syntactic) (getD w 0 0) other))))))
 
+-- the terminal of a token
 unfoldable pub symOf : Token → ℕ
 symOf t = symbolOf (t .kind) (t .bytes)
 

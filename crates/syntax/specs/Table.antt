@@ -1,22 +1,20 @@
--- The tokens that a table of records holds, and what a reader over the table answers.
-use mathlib.Core.Path.{_≡_}
+-- The tokens that a table of records holds. `Read` says what a reader over the table answers.
 use Prim.Native.Nat.{ℕ, zero, suc, _+_, _-_, _*_, _<_, _≤_}
 use mathlib.Core.List.{List, [], _∷_}
 use lib.ListN.{length, getD, take, drop}
 use Rattle.lexis.specs.Lexer.{Token}
 use Rattle.lexis.specs.Sizes.{recordWords}
-use Rattle.syntax.specs.Parser.{Parse}
-use Rattle.syntax.specs.Parser.Parse.{ok, bad}
-use Rattle.syntax.specs.declared.Parsed.{Parsed}
-use Rattle.syntax.specs.declared.Parsed.the-variants.{Done, Fault}
+pub use Rattle.syntax.specs.Read.{placeOf, parsed}
 
--- kind, start and end after the last byte of the token at place i
+-- the kind of the token at place i
 abbrev pub kindAt : List ℕ → ℕ → ℕ
 kindAt table i = getD table (i * recordWords) 0
 
+-- where it starts
 abbrev pub startAt : List ℕ → ℕ → ℕ
 startAt table i = getD table (i * recordWords + 1) 0
 
+-- its end, after its last byte
 abbrev pub endAt : List ℕ → ℕ → ℕ
 endAt table i = getD table (i * recordWords + 2) 0
 
@@ -38,13 +36,3 @@ toks text table n i = tokensFrom text table i (n - i)
 pub record Holds (text table : List ℕ) (n : ℕ) : Type 0 where
   pub room : n * recordWords ≤ length table
   pub within : (i : ℕ) → i < n → (startAt table i < endAt table i) × (endAt table i ≤ length text)
-
--- the place of a fault: its token's start, or the text's end
-abbrev pub placeOf : ℕ → List Token → ℕ
-placeOf end [] = end
-placeOf end (t ∷ ts) = t .start
-
--- what a reader over n tokens of a text that ends at `end` answers: how many tokens were passed, or the code and the place of the fault
-abbrev pub parsed : {A : Type 0} → ℕ → ℕ → Parse A → Parsed
-parsed end n (ok a ts) = Done (n - length ts)
-parsed end n (bad c ts) = Fault c (placeOf end ts)

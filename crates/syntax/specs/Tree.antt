@@ -14,18 +14,21 @@ mutual
     array : Token → Values → Value
     tuple : Token → Values → Value
 
+  -- the items of an array or a tuple, in order
   pub data Values : Type 0 where
     none : Values
     more : Value → Values → Values
 
 -- ---- types
 
+-- A type: one of the five that have a name, an array of items of a type, a tuple of types.
 mutual
   pub data Ty : Type 0 where
     tensor extent scalar logical string : Ty
     arrayOf : Ty → Ty
     tupleOf : Tys → Ty
 
+  -- the types of a tuple, in order
   pub data Tys : Type 0 where
     no-type : Tys
     a-type : Ty → Tys → Tys
@@ -38,6 +41,7 @@ pub record Param : Type 0 where
   pub ty : Ty
   pub default : Option Value
 
+-- `name : type`
 pub record Result : Type 0 where
   pub name : Token
   pub ty : Ty

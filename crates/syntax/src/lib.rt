@@ -1,7 +1,7 @@
 // The syntax of operation lists and documents: readers over a table of tokens.
-pub mod graph;
+mod graph;
 pub mod list;
-pub mod operations;
+mod operations;
 pub mod symbol;
 pub mod types;
 pub mod value;
@@ -13,10 +13,10 @@ use operations::list_syntax;
 ghost use mathlib.Core.Path.{_≡_};
 ghost use Prim.Native.Nat.{_*_, _≤_, min};
 ghost use lib.ListN.{length};
-ghost use Rattle.lexis.specs.Answer.{Recorded, Room};
 ghost use Rattle.lexis.specs.Bytes.{classTable};
 ghost use Rattle.lexis.specs.Lexer.{lex};
 ghost use Rattle.lexis.specs.Sizes.{maxText, maxTokens, recordWords};
+ghost use Rattle.lexis.specs.Work.{Recorded, Room};
 ghost use Rattle.syntax.specs.Table.{toks, Holds};
 ghost use Rattle.syntax.specs.Read.{syntaxOf, readOf};
 

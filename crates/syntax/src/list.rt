@@ -97,7 +97,7 @@ pub fn one(text: &[u8], table: &[u32], n: usize, at: usize, which: Item) -> Pars
 }
 
 // Items parted by commas, at least one, and the closing bracket.
-pub fn list(text: &[u8], table: &[u32], n: usize, at: usize, which: Item) -> Parsed
+fn list(text: &[u8], table: &[u32], n: usize, at: usize, which: Item) -> Parsed
     requires { ⌜ Holds (now text) (now table) n ⌝ }
     ensures { λ r. ⌜ r ≡ parsed (length (now (text .entry))) n (row plain (commas rightRound) (reader which) (toks (now (text .entry)) (now (table .entry)) n at)) ⌝ }
 {
@@ -116,7 +116,7 @@ pub fn list(text: &[u8], table: &[u32], n: usize, at: usize, which: Item) -> Par
 
 impl Parsed {
     // And then a list.
-    pub fn then_list(self, text: &[u8], table: &[u32], n: usize, which: Item) -> Parsed
+    pub(crate) fn then_list(self, text: &[u8], table: &[u32], n: usize, which: Item) -> Parsed
         requires { ⌜ Holds (now text) (now table) n ⌝ }
         ensures { λ r. ⌜ r ≡ onwards self (λ j. parsed (length (now (text .entry))) n (row plain (commas rightRound) (reader which) (toks (now (text .entry)) (now (table .entry)) n j))) ⌝ }
     {

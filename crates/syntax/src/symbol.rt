@@ -4,13 +4,15 @@ use lexis::kind::Kind;
 use lexis::limits::Limits;
 use lexis::word::same;
 ghost use mathlib.Core.Path.{_≡_};
+ghost use mathlib.Core.Bool.{cond};
 ghost use Prim.Native.Nat.{_-_, _<_, _≤_};
 ghost use lib.ListN.{length, take, drop};
+ghost use Rattle.lexis.specs.Words.{sameBytes};
 ghost use Rattle.syntax.specs.declared.Parsed.the-variants.{Fault};
-ghost use Rattle.syntax.specs.Symbol.{keywordSymbol, symbolOf};
+ghost use Rattle.syntax.specs.Symbol.{keywordSymbol, symbolOf, other};
 ghost use Rattle.syntax.specs.Parser.{expect};
 ghost use Rattle.syntax.specs.Table.{toks, Holds, placeOf, parsed};
-ghost use Rattle.syntax.specs.Inner.{theEnd, lookahead, onwards};
+ghost use Rattle.syntax.specs.Inner.{theEnd, typeSymbol, lookahead, onwards};
 
 // The kinds of token, as words of a record.
 const NAME: u32 = Kind::NAME as u32;
@@ -82,35 +84,47 @@ impl Symbol {
     pub const END: u32 = 267;
 }
 
-// The terminal of a keyword, by its spelling.
+// `symbol` where w is spelt so; a terminal that the flat syntax has no place for where not.
+fn symbol_if(w: &[u8], spelling: &[u8], symbol: u32) -> u32
+    ensures { λ r. ⌜ r ≡ cond (sameBytes (now (w .entry)) (now (spelling .entry))) symbol other ⌝ }
+{
+    if same(w, spelling) {
+        return symbol;
+    }
+    Symbol::OTHER
+}
+
+// The terminal of a keyword, by its spelling. Its first byte leaves one word to compare it with, or the words of a type.
 fn keyword(w: &[u8]) -> u32
     ensures { λ r. ⌜ r ≡ keywordSymbol (now (w .entry)) ⌝ }
 {
-    if same(w, b"version") {
-        return Symbol::VERSION;
+    if w.len() == 0 {
+        return Symbol::OTHER;
     }
-    if same(w, b"graph") {
-        return Symbol::GRAPH;
+    match w[0] {
+        b'v' => symbol_if(w, b"version", Symbol::VERSION),
+        b'g' => symbol_if(w, b"graph", Symbol::GRAPH),
+        b'f' => symbol_if(w, b"fragment", Symbol::FRAGMENT),
+        _ => type_word(w),
     }
-    if same(w, b"fragment") {
-        return Symbol::FRAGMENT;
+}
+
+// The terminal of a type's name.
+fn type_word(w: &[u8]) -> u32
+    requires { ⌜ 0 < length (now w) ⌝ }
+    ensures { λ r. ⌜ r ≡ typeSymbol (now (w .entry)) ⌝ }
+{
+    match w[0] {
+        b't' => symbol_if(w, b"tensor", Symbol::TENSOR),
+        b'e' => symbol_if(w, b"extent", Symbol::EXTENT),
+        b'l' => symbol_if(w, b"logical", Symbol::LOGICAL),
+        _ => {
+            if same(w, b"scalar") {
+                return Symbol::SCALAR;
+            }
+            symbol_if(w, b"string", Symbol::STRING)
+        }
     }
-    if same(w, b"tensor") {
-        return Symbol::TENSOR;
-    }
-    if same(w, b"extent") {
-        return Symbol::EXTENT;
-    }
-    if same(w, b"scalar") {
-        return Symbol::SCALAR;
-    }
-    if same(w, b"logical") {
-        return Symbol::LOGICAL;
-    }
-    if same(w, b"string") {
-        return Symbol::STRING;
-    }
-    Symbol::OTHER
 }
 
 fn wide(x: u8) -> u32
@@ -184,7 +198,7 @@ pub fn place_at(text: &[u8], table: &[u32], n: usize, at: usize) -> usize
 }
 
 // The fault of this code at the token at place `at`.
-pub fn fault_at(text: &[u8], table: &[u32], n: usize, at: usize, code: u32) -> Parsed
+pub(crate) fn fault_at(text: &[u8], table: &[u32], n: usize, at: usize, code: u32) -> Parsed
     requires { ⌜ Holds (now text) (now table) n ⌝ }
     ensures { λ r. ⌜ r ≡ Fault code (placeOf (length (now (text .entry))) (toks (now (text .entry)) (now (table .entry)) n at)) ⌝ }
 {
@@ -195,7 +209,7 @@ pub fn fault_at(text: &[u8], table: &[u32], n: usize, at: usize, code: u32) -> P
 }
 
 // The terminal s at place `at`.
-pub fn expect(text: &[u8], table: &[u32], n: usize, at: usize, s: u32) -> Parsed
+pub(crate) fn expect(text: &[u8], table: &[u32], n: usize, at: usize, s: u32) -> Parsed
     requires { ⌜ Holds (now text) (now table) n ⌝ }
     requires { ⌜ s < theEnd ⌝ }
     ensures { λ r. ⌜ r ≡ parsed (length (now (text .entry))) n (expect s (toks (now (text .entry)) (now (table .entry)) n at)) ⌝ }
@@ -208,7 +222,7 @@ pub fn expect(text: &[u8], table: &[u32], n: usize, at: usize, s: u32) -> Parsed
 
 impl Parsed {
     // And then the terminal s.
-    pub fn then_expect(self, text: &[u8], table: &[u32], n: usize, s: u32) -> Parsed
+    pub(crate) fn then_expect(self, text: &[u8], table: &[u32], n: usize, s: u32) -> Parsed
         requires { ⌜ Holds (now text) (now table) n ⌝ }
         requires { ⌜ s < theEnd ⌝ }
         ensures { λ r. ⌜ r ≡ onwards self (λ j. parsed (length (now (text .entry))) n (expect s (toks (now (text .entry)) (now (table .entry)) n j))) ⌝ }

@@ -110,7 +110,7 @@ fn tuple(text: &[u8], table: &[u32], n: usize, at: usize, leaves: Leaves, room: 
 }
 
 // Values parted by commas, at least one, and the closing terminal.
-pub fn items(
+pub(crate) fn items(
     text: &[u8],
     table: &[u32],
     n: usize,
