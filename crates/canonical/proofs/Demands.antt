@@ -11,7 +11,7 @@ use lib.ListN.{length, getD, replicate}
 use lib.Seq.{sets}
 use Rattle.lexis.specs.Sizes.{maxText, maxTokens, maxBrackets, tokenWords, tableWords, workWords}
 use Rattle.lexis.specs.Code as Code
-use Rattle.lexis.specs.Lexer.{Token, accepted, refused, lex, Placed, Kinded}
+use Rattle.lexis.specs.Lexer.{Token, accepted, refused, lex, Placed, Longest, Kinded}
 use Rattle.lexis.specs.Answer.{answer, records, tokensAnswer, tokensTable}
 use Rattle.lexis.proofs.Theorems as Lexis
 use Rattle.syntax.specs.Tree.{Header, Call, Document}
@@ -113,9 +113,9 @@ tokens-fault = Answers.tokens-fault
 pub tokens-keeps-beyond : (text table : List ℕ) (i : ℕ) → tokensAnswer text table .detail * tokenWords ≤ i → getD (tokensTable text table) i 0 ≡ getD table i 0
 tokens-keeps-beyond = Lexis.kept-beyond
 
--- tokens stand in the text one after the other, with only white space and comments between them, each the longest; they are of the eight kinds
-pub tokens-placed : (text : List ℕ) (ts : List Token) → lex text ≡ accepted ts → Placed text 0 ts × Kinded ts
-tokens-placed text ts e = (Lexis.placed text ts e, Lexis.kinded text ts e)
+-- tokens stand in the text one after the other, with only white space and comments between them; each is the longest; they are of the eight kinds
+pub tokens-placed : (text : List ℕ) (ts : List Token) → lex text ≡ accepted ts → Placed text 0 ts × (Longest text ts × Kinded ts)
+tokens-placed text ts e = (Lexis.placed text ts e, (Lexis.longest-match text ts e, Lexis.kinded text ts e))
 
 -- ---- declarations
 

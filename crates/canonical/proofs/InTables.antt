@@ -81,15 +81,19 @@ module _ {texts : List (List ℕ)} (Count Length : ℕ → Type 0) where
       go is-too-many b = T.too-many t b
 
   syntax-line : {A : Type 0} {Spells : ℕ → List Token → A → Type 0} {n c : ℕ} {text : List ℕ} {ts us : List Token} → TextOf texts n text → lex text ≡ lexed ts
-      → FirstFault (λ b xs. (a : A) × Spells b xs a) maxBrackets c ts us → InTable texts Count Length (answer c n (placeOf (length text) us) 0)
-  syntax-line {n = n} {c} {text} {ts} {us} t e f = go (f .code)
+      → FirstFault (λ b xs. (a : A) × Spells b xs a) maxBrackets c ts us → (c ≡ Syntax.bracket → (x : Token) × ((ws : List Token) × (us ≡ x ∷ ws)))
+      → InTable texts Count Length (answer c n (placeOf (length text) us) 0)
+  syntax-line {n = n} {c} {text} {ts} {us} t e f o = go (f .code)
     where
       place : StartsToken text (placeOf (length text) us) ⊎ (placeOf (length text) us ≡ length text)
       place = place-line text ts us (f .before) e (f .split)
 
+      begun : (x : Token) × ((ws : List Token) × (us ≡ x ∷ ws)) → StartsToken text (placeOf (length text) us)
+      begun b = rw (b .1 .1) (record { before = f .before; token = b .0; after = b .1 .0; among = e ∙ ap (λ (xs : List Token). lexed xs) (f .split ∙ ap (λ (xs : List Token). f .before ++ xs) (b .1 .1)); start = refl })
+
       go : (c ≡ Syntax.syntax) ⊎ (c ≡ Syntax.bracket) → InTable texts Count Length (answer c n (placeOf (length text) us) 0)
       go (inl q) = rw q (T.syntax t place)
-      go (inr q) = rw q (T.bracket t place)
+      go (inr q) = rw q (T.bracket t (begun (o q)))
 
   list-line : {c k p : ℕ} {text : List ℕ} → TextOf texts 1 text → ListCode c k → StartsToken text p → InTable texts Count Length (answer c 1 p k)
   list-line t Lines.list-over-size s = T.over-size t s
@@ -113,12 +117,12 @@ module _ {texts : List (List ℕ)} (Count Length : ℕ → Type 0) where
 
   list-refused : {list : List ℕ} {r : Answer} → TextOf texts 1 list → Refusal IsList ListCode 1 list r → InTable texts Count Length r
   list-refused t (of-bytes e) = bytes-line t e
-  list-refused t (of-syntax e f) = syntax-line {Spells = IsList} t e f
+  list-refused t (of-syntax e f o) = syntax-line {Spells = IsList} t e f o
   list-refused t (of-rules c s) = list-line t c s
 
   document-refused : {doc : List ℕ} {r : Answer} → TextOf texts 2 doc → Refusal IsDocument DocumentCode 2 doc r → InTable texts Count Length r
   document-refused t (of-bytes e) = bytes-line t e
-  document-refused t (of-syntax e f) = syntax-line {Spells = IsDocument} t e f
+  document-refused t (of-syntax e f o) = syntax-line {Spells = IsDocument} t e f o
   document-refused t (of-rules c s) = document-line t c s
 
 -- ---- guards and stages

@@ -59,7 +59,7 @@ pub data InTable (texts : List (List ℕ)) (Count Length : ℕ → Type 0) : Ans
   -- 9: no valid text has this token here, or ends here
   syntax : {n p : ℕ} {text : List ℕ} → TextOf texts n text → ATokenOrEnd text p → InTable texts Count Length (answer Syntax.syntax n p 0)
   -- 10: a ninth bracket is opened
-  bracket : {n p : ℕ} {text : List ℕ} → TextOf texts n text → ATokenOrEnd text p → InTable texts Count Length (answer Syntax.bracket n p 0)
+  bracket : {n p : ℕ} {text : List ℕ} → TextOf texts n text → AToken text p → InTable texts Count Length (answer Syntax.bracket n p 0)
   -- 11: the version is not spelt `1.0`
   wrong-version : {p : ℕ} {text : List ℕ} → TextOf texts 2 text → AToken text p → InTable texts Count Length (answer Rules.wrongVersion 2 p 0)
   -- 12: a count is above its size

@@ -172,7 +172,7 @@ fn tokens_by(text: &[u8], work: &mut [u32], table: &mut [u32]) -> Answer
         Counted::Tokens(n) => {
             copy(work, table, words_of(n));
             Answer {
-                code: 0,
+                code: Code::ACCEPTED,
                 text: 0,
                 position: 0,
                 detail: n,

@@ -13,7 +13,8 @@ use lib.Seq.{sets-eq, length-sets, take-at, drop-at, length-take-le}
 use borrow.Author.Tests.{ne-eqb}
 use Rattle.lexis.specs.Sizes.{maxTokens, recordWords, scratchStart, workWords, maxBrackets}
 use Rattle.lexis.specs.Lexer.{Token, Lexed, accepted, refused, lex}
-use Rattle.lexis.specs.Answer.{Recorded, Room, answer}
+use Rattle.lexis.specs.Answer.{answer}
+use Rattle.lexis.specs.Work.{Recorded, Room}
 use Rattle.lexis.specs.Answer as LA
 use Rattle.lexis.specs.declared.Answer.{Answer}
 use Rattle.lexis.specs.declared.Counted.{Counted}

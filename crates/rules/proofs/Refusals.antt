@@ -13,13 +13,14 @@ use Rattle.lexis.specs.Lexer.{Token, Lexed, accepted, refused, lex}
 use Rattle.lexis.specs.Answer.{answer}
 use Rattle.lexis.specs.declared.Answer.{Answer}
 use Rattle.lexis.proofs.Theorems.{coded}
+use Rattle.syntax.specs.Code as Code
 use Rattle.syntax.specs.Tree.{Header, Document}
 use Rattle.syntax.specs.Grammar.{IsList, IsDocument}
 use Rattle.syntax.specs.Fault.{FirstFault}
 use Rattle.syntax.specs.Table.{placeOf}
 use Rattle.syntax.specs.Parser.{Parse, Reader, operations, document}
 use Rattle.syntax.specs.Parser.Parse.{ok, bad}
-use Rattle.syntax.proofs.Theorems.{list-parsed, document-parsed, list-all-read, document-all-read, list-fault, document-fault}
+use Rattle.syntax.proofs.Theorems.{list-parsed, document-parsed, list-all-read, document-all-read, list-fault, document-fault, list-bracket, document-bracket}
 use Rattle.rules.specs.Fault.{Fault, first}
 use Rattle.rules.specs.ListRules.{listFaults}
 use Rattle.rules.specs.DocumentRules.{documentFaults}
@@ -34,7 +35,7 @@ use Rattle.rules.proofs.Lines.{ListCode, list-over-size, list-repeated-
 -- a refusal of text n, whose tokens are to spell a tree, and whose rules give codes with these details
 pub data Refusal {A : Type 0} (Spells : ℕ → List Token → A → Type 0) (C : ℕ → ℕ → Type 0) (n : ℕ) (text : List ℕ) : Answer → Type 0 where
   of-bytes : {c p : ℕ} → lex text ≡ refused c p → Refusal Spells C n text (answer c n p 0)
-  of-syntax : {c : ℕ} {ts us : List Token} → lex text ≡ accepted ts → FirstFault (λ b xs. (a : A) × Spells b xs a) maxBrackets c ts us
+  of-syntax : {c : ℕ} {ts us : List Token} → lex text ≡ accepted ts → FirstFault (λ b xs. (a : A) × Spells b xs a) maxBrackets c ts us → (c ≡ Code.bracket → (t : Token) × ((ws : List Token) × (us ≡ t ∷ ws)))
       → Refusal Spells C n text (answer c n (placeOf (length text) us) 0)
   of-rules : {c p k : ℕ} → C c k → StartsToken text p → Refusal Spells C n text (answer c n p k)
 
@@ -46,6 +47,7 @@ each-starts text before (t ∷ ts) e =
 
 module _ {A : Type 0} (Spells : ℕ → List Token → A → Type 0) (C : ℕ → ℕ → Type 0) (n : ℕ) (text : List ℕ) (f : Reader A) (faultsOf : A → List Fault)
     (spelt : (c : ℕ) (ts us : List Token) → f ts ≡ bad c us → FirstFault (λ b xs. (a : A) × Spells b xs a) maxBrackets c ts us)
+    (opened : (c : ℕ) (ts us : List Token) → f ts ≡ bad c us → c ≡ Code.bracket → (t : Token) × ((ws : List Token) × (us ≡ t ∷ ws)))
     (lined : (ts us : List Token) (a : A) → f ts ≡ ok a us → Each (λ (t : Token). StartsToken text (t .start)) ts → Each (OnLine C (StartsToken text)) (faultsOf a)) where
   by-rules : (a : A) (o : Option Fault) → first (faultsOf a) ≡ o → Each (OnLine C (StartsToken text)) (faultsOf a) → (r : Answer) → rulesStage n a o ≡ stop r → Refusal Spells C n text r
   by-rules a nothing e h r k = let z : _≡_ {A = ℕ} 0 1 = cc in absurd (omega arith)
@@ -57,7 +59,7 @@ module _ {A : Type 0} (Spells : ℕ → List Token → A → Type 0) (C : ℕ �
 
   by-syntax : (ts : List Token) → lex text ≡ accepted ts → (p : Parse A) → f ts ≡ p → (r : Answer) → andThen (syntaxStage n text p) (λ a. rulesStage n a (first (faultsOf a))) ≡ stop r → Refusal Spells C n text r
   by-syntax ts l (ok a us) e r k = by-rules a (first (faultsOf a)) refl (lined ts us a e (each-starts text [] ts l)) r k
-  by-syntax ts l (bad c us) e r k = let q : answer c n (placeOf (length text) us) 0 ≡ r = cc in let w : Refusal Spells C n text (answer c n (placeOf (length text) us) 0) = of-syntax l (spelt c ts us e) in rw q at w
+  by-syntax ts l (bad c us) e r k = let q : answer c n (placeOf (length text) us) 0 ≡ r = cc in let w : Refusal Spells C n text (answer c n (placeOf (length text) us) 0) = of-syntax l (spelt c ts us e) (opened c ts us e) in rw q at w
 
   refusal : (r : Answer) → stages n f faultsOf text ≡ stop r → Refusal Spells C n text r
   refusal r k = go (lex text) refl k
@@ -69,7 +71,7 @@ module _ {A : Type 0} (Spells : ℕ → List Token → A → Type 0) (C : ℕ �
 -- its code is 3 or more
 refusal-high : {A : Type 0} {Spells : ℕ → List Token → A → Type 0} {C : ℕ → ℕ → Type 0} {n : ℕ} {text : List ℕ} {r : Answer} → ((c k : ℕ) → C c k → 3 ≤ c) → Refusal Spells C n text r → 3 ≤ r .code
 refusal-high {text = text} h (of-bytes {c = c} {p = p} e) = coded text c p e .0
-refusal-high h (of-syntax {c = c} e f) = go (f .code)
+refusal-high h (of-syntax {c = c} e f g) = go (f .code)
   where
     go : (c ≡ 9) ⊎ (c ≡ 10) → 3 ≤ c
     go (inl q) = omega (arith, q)
@@ -81,13 +83,13 @@ refusal-high h (of-rules {c = c} {k = k} d s) = h c k d
 pub list-refusal : (list : List ℕ) (r : Answer) → listStages list ≡ stop r → Refusal IsList ListCode 1 list r
 unfolding listStages
 list-refusal list r e =
-    refusal IsList ListCode 1 list (operations maxBrackets) listFaults (list-fault maxBrackets)
+    refusal IsList ListCode 1 list (operations maxBrackets) listFaults (list-fault maxBrackets) (list-bracket maxBrackets)
     (λ ts us hs q g. list-lined (StartsToken list) hs (list-good (λ t. StartsToken list (t .start)) (list-parsed maxBrackets ts hs .0 (q ∙ ap (ok hs) (list-all-read maxBrackets ts hs us q))) g)) r e
 
 pub document-refusal : (hs : List Header) (doc : List ℕ) (r : Answer) → first (listFaults hs) ≡ nothing → documentStages hs doc ≡ stop r → Refusal IsDocument DocumentCode 2 doc r
 unfolding documentStages
 document-refusal hs doc r c e =
-    refusal IsDocument DocumentCode 2 doc (document maxBrackets) (documentFaults hs) (document-fault maxBrackets)
+    refusal IsDocument DocumentCode 2 doc (document maxBrackets) (documentFaults hs) (document-fault maxBrackets) (document-bracket maxBrackets)
     (λ ts us d q g. document-lined (StartsToken doc) hs c d (document-good (λ t. StartsToken doc (t .start)) (document-parsed maxBrackets ts d .0 (q ∙ ap (ok d) (document-all-read maxBrackets ts d us q))) g)) r e
 
 pub both-refusal : (list doc : List ℕ) (r : Answer) → bothStages list doc ≡ stop r → Refusal IsList ListCode 1 list r ⊎ Refusal IsDocument DocumentCode 2 doc r

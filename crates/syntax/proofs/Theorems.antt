@@ -2,15 +2,16 @@
 -- not read the parser: these statements say what it answers. b is the bracket limit: 8 for whole texts, and any other here.
 -- Assumes nothing.
 use mathlib.Core.Path.{_≡_}
-use mathlib.Core.List.{List, []}
+use mathlib.Core.List.{List, [], _∷_}
 use Prim.Native.Nat.{ℕ}
 use Rattle.lexis.specs.Lexer.{Token}
 use Rattle.syntax.specs.Tree.{Header, Document}
 use Rattle.syntax.specs.Grammar.{IsList, IsDocument}
+use Rattle.syntax.specs.Code as Code
 use Rattle.syntax.specs.Fault.{FirstFault}
 use Rattle.syntax.specs.Parser.{operations, document}
 use Rattle.syntax.specs.Parser.Parse.{ok, bad}
-use Rattle.syntax.proofs.Whole.{lists, documents, sound, all-read, one-tree, fault, exact}
+use Rattle.syntax.proofs.Whole.{lists, documents, sound, all-read, one-tree, fault, at-token, exact}
 
 -- ---- what is accepted is what the grammar derives, all of it
 
@@ -41,6 +42,14 @@ list-fault = fault lists
 
 pub document-fault : (b c : ℕ) (ts us : List Token) → document b ts ≡ bad c us → FirstFault (λ b ts. (d : Document) × IsDocument b ts d) b c ts us
 document-fault = fault documents
+
+-- 10 stands at a token, and never at the end
+
+pub list-bracket : (b c : ℕ) (ts us : List Token) → operations b ts ≡ bad c us → c ≡ Code.bracket → (t : Token) × ((ws : List Token) × (us ≡ t ∷ ws))
+list-bracket = at-token lists
+
+pub document-bracket : (b c : ℕ) (ts us : List Token) → document b ts ≡ bad c us → c ≡ Code.bracket → (t : Token) × ((ws : List Token) × (us ≡ t ∷ ws))
+document-bracket = at-token documents
 
 -- and nothing else is given: where a text has such a first fault, with either code, that is the answer
 

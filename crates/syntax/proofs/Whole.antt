@@ -175,6 +175,14 @@ module _ {A : Type 0} {f : ℕ → Reader A} {Valid : ℕ → List Token → A �
             ten = λ z. (t ∷ (q' .tokens ++ []), (both-begin, (q' .tree, rw append-assoc at (q' .reaches (suc b) [] (omega arith) refl))));
           }
 
+  -- a fault of code 10 stands at a token
+  pub at-token : (b c : ℕ) (ts us : List Token) → f b ts ≡ bad c us → c ≡ 10 → (t : Token) × ((ws : List Token) × (us ≡ t ∷ ws))
+  at-token b c ts us e k = go (rw e at (w .right b ts)) k
+    where
+      go : {c : ℕ} {us : List Token} → Right (λ b ts a us. us ≡ [] → Valid b ts a) b ts (bad c us) → c ≡ 10 → (t : Token) × ((ws : List Token) × (us ≡ t ∷ ws))
+      go (nine p d q) k = absurd (omega (arith, k))
+      go (ten {t} {us} p d q q') k = (t, (us, refl))
+
   -- the codes of two first faults at one place agree
   same-code : (b c c' : ℕ) (ts us us' : List Token) (h : FirstFault (λ b ts. (a : A) × Valid b ts a) b c ts us) (k : FirstFault (λ b ts. (a : A) × Valid b ts a) b c' ts us') → h .before ≡ k .before → us ≡ us' → c' ≡ c
   same-code b c c' ts us us' h k p q = go (h .code) (k .code)
