@@ -33,7 +33,7 @@ use Rattle.canonical.proofs.CanonStages.{text-stopped}
 -- ---- tokens
 
 module _ (text table : List ℕ) where
-  pub tokens-room : length table < tableWords → tokensAnswer text table ≡ answer Code.shortTable 0 0 0
+  pub tokens-room : length table < tableWords → tokensAnswer text table ≡ answer Code.shortRoom 0 0 0
   unfolding tokensAnswer
   tokens-room l = rw (lt-leb tableWords (length table) l)
 
@@ -56,7 +56,7 @@ module _ (text table : List ℕ) where
   tokens-accepted e = go (leb tableWords (length table)) (leb (length text) maxText) (lex text) refl refl refl e
     where
       go : (a b : Bool) (l : Lexed) → leb tableWords (length table) ≡ a → leb (length text) maxText ≡ b → lex text ≡ l
-          → cond a (cond b (answerOf (counted l)) (answer Code.longText 1 maxText 0)) (answer Code.shortTable 0 0 0) .code ≡ 0
+          → cond a (cond b (answerOf (counted l)) (answer Code.longText 1 maxText 0)) (answer Code.shortRoom 0 0 0) .code ≡ 0
           → (tableWords ≤ length table) × ((length text ≤ maxText) × ((ts : List Token) × (lex text ≡ accepted ts)))
       go false b l p q r e = absurd (omega arith)
       go true false l p q r e = absurd (omega arith)
@@ -90,7 +90,7 @@ pub check-list : (list doc : List ℕ) (l : CheckRoom) (work : ℕ) → checkSer
 check-list list doc l work s r m k n = check-refuses list doc l (declarationsAnswer list work) s m k (refused-list list doc work r m n)
 
 module _ (list doc : List ℕ) (l : Lent) where
-  pub canon-room : canonServes (roomOf l) ≡ false → numbers list doc l ≡ answer Code.shortTable 0 0 0
+  pub canon-room : canonServes (roomOf l) ≡ false → numbers list doc l ≡ answer Code.shortRoom 0 0 0
   unfolding numbers canonAnswer written
   canon-room e = rw e
 

@@ -196,7 +196,7 @@ module _ (list doc work₁ work₂ out : List ℕ) where
   unfolding canonAnswer
   refused e h a = let w = wrote-stopped e a refl in (w .answered, (w .output, (kept work₁ h a, kept work₂ h a)))
 
-  pub refused-room : {r : Answer} → canonServes room ≡ false → r ≡ answer L.shortTable 0 0 0 → Ensured r out work₁ work₂
+  pub refused-room : {r : Answer} → canonServes room ≡ false → r ≡ answer L.shortRoom 0 0 0 → Ensured r out work₁ work₂
   unfolding written
   refused-room e a = refused (guard-room list doc (textStages list doc (length out)) e) refl a
 

@@ -89,7 +89,7 @@ canon-work list doc work₁ work₂ out = Answers.works-after (numbers list doc 
 
 -- ---- tokens
 
-pub tokens-room : (text table : List ℕ) → length table < tableWords → tokensAnswer text table ≡ answer Code.shortTable 0 0 0
+pub tokens-room : (text table : List ℕ) → length table < tableWords → tokensAnswer text table ≡ answer Code.shortRoom 0 0 0
 tokens-room = Answers.tokens-room
 
 pub tokens-long : (text table : List ℕ) → tableWords ≤ length table → maxText < length text → tokensAnswer text table ≡ answer Code.longText 1 maxText 0
@@ -119,7 +119,7 @@ tokens-placed text ts e = (Lexis.placed text ts e, (Lexis.longest-match text ts 
 
 -- ---- declarations
 
-pub declarations-room : (list : List ℕ) (work : ℕ) → work < workWords → declarationsAnswer list work ≡ answer Code.shortTable 0 0 0
+pub declarations-room : (list : List ℕ) (work : ℕ) → work < workWords → declarationsAnswer list work ≡ answer Code.shortRoom 0 0 0
 declarations-room = Rules.declarations-room
 
 pub declarations-long : (list : List ℕ) (work : ℕ) → workWords ≤ work → maxText < length list → declarationsAnswer list work ≡ answer Code.longText 1 maxText 0
@@ -147,7 +147,7 @@ module _ (list : List ℕ) (work : ℕ) (r : workWords ≤ work) (l : length lis
 
 -- ---- check
 
-pub check-room : (list doc : List ℕ) (l : CheckRoom) → checkServes l ≡ false → checkAnswer list doc l ≡ answer Code.shortTable 0 0 0
+pub check-room : (list doc : List ℕ) (l : CheckRoom) → checkServes l ≡ false → checkAnswer list doc l ≡ answer Code.shortRoom 0 0 0
 check-room = Rules.check-room
 
 pub check-long : (list doc : List ℕ) (l : CheckRoom) → checkServes l ≡ true → maxText < length list → checkAnswer list doc l ≡ answer Code.longText 1 maxText 0
@@ -195,7 +195,7 @@ wire-below = Rules.wire-below
 
 -- ---- canon
 
-pub canon-room : (list doc : List ℕ) (l : Lent) → canonServes (roomOf l) ≡ false → numbers list doc l ≡ answer Code.shortTable 0 0 0
+pub canon-room : (list doc : List ℕ) (l : Lent) → canonServes (roomOf l) ≡ false → numbers list doc l ≡ answer Code.shortRoom 0 0 0
 canon-room = Answers.canon-room
 
 pub canon-long : (list doc : List ℕ) (l : Lent) → canonServes (roomOf l) ≡ true → maxText < length list → numbers list doc l ≡ answer Code.longText 1 maxText 0

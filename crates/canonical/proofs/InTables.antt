@@ -130,14 +130,14 @@ module _ {texts : List (List ℕ)} (Count Length : ℕ → Type 0) where
 -- the answer of a text by itself, after its guard of code 2
 alone : {A : Type 0} (Count : ℕ → Type 0) (text : List ℕ) (s : Stage A) (n : A → ℕ) → (length text ≤ maxText → (a : A) → s ≡ pass a → Count (n a))
     → ((r : Answer) → s ≡ stop r → InTable (text ∷ []) Count NoText r) → (serves : Bool)
-    → InTable (text ∷ []) Count NoText (stageAnswer (guard serves (answer Bytes.shortTable 0 0 0) (guard (leb (length text) maxText) (answer Bytes.longText 1 maxText 0) s)) n)
+    → InTable (text ∷ []) Count NoText (stageAnswer (guard serves (answer Bytes.shortRoom 0 0 0) (guard (leb (length text) maxText) (answer Bytes.longText 1 maxText 0) s)) n)
 alone {A} Count text s n h k serves = go serves (leb (length text) maxText) refl
   where
     by : length text ≤ maxText → (x : Stage A) → s ≡ x → InTable (text ∷ []) Count NoText (stageAnswer x n)
     by l (pass a) e = T.accepted (h l a e)
     by l (stop r) e = k r e
 
-    go : (a b : Bool) → leb (length text) maxText ≡ b → InTable (text ∷ []) Count NoText (stageAnswer (guard a (answer Bytes.shortTable 0 0 0) (guard b (answer Bytes.longText 1 maxText 0) s)) n)
+    go : (a b : Bool) → leb (length text) maxText ≡ b → InTable (text ∷ []) Count NoText (stageAnswer (guard a (answer Bytes.shortRoom 0 0 0) (guard b (answer Bytes.longText 1 maxText 0) s)) n)
     go false b e = T.short-room
     go true false e = T.long-text first-text (leb-false (length text) maxText e)
     go true true e = by (leb-true (length text) maxText e) s refl
@@ -148,7 +148,7 @@ under : {A : Type 0} (Count Length : ℕ → Type 0) (list doc : List ℕ) (s : 
 under Count Length list doc s n h serves = go serves (leb (length list) maxText) (leb (length doc) maxText) refl refl
   where
     go : (a b c : Bool) → leb (length list) maxText ≡ b → leb (length doc) maxText ≡ c
-        → InTable (list ∷ doc ∷ []) Count Length (stageAnswer (guard a (answer Bytes.shortTable 0 0 0) (guard b (answer Bytes.longText 1 maxText 0) (guard c (answer Bytes.longText 2 maxText 0) s))) n)
+        → InTable (list ∷ doc ∷ []) Count Length (stageAnswer (guard a (answer Bytes.shortRoom 0 0 0) (guard b (answer Bytes.longText 1 maxText 0) (guard c (answer Bytes.longText 2 maxText 0) s))) n)
     go false b c e f = T.short-room
     go true false c e f = T.long-text first-text (leb-false (length list) maxText e)
     go true true false e f = T.long-text second-text (leb-false (length doc) maxText f)
@@ -173,7 +173,7 @@ tokens-in text table = go (leb tableWords (length table)) (leb (length text) max
     by (refused c p) e = bytes-line (TokenCount text) NoText first-text e
 
     go : (a b : Bool) → leb (length text) maxText ≡ b
-        → InTable (text ∷ []) (TokenCount text) NoText (cond a (cond b (answerOf (counted (lex text))) (answer Bytes.longText 1 maxText 0)) (answer Bytes.shortTable 0 0 0))
+        → InTable (text ∷ []) (TokenCount text) NoText (cond a (cond b (answerOf (counted (lex text))) (answer Bytes.longText 1 maxText 0)) (answer Bytes.shortRoom 0 0 0))
     go false b e = T.short-room
     go true false e = T.long-text first-text (leb-false (length text) maxText e)
     go true true e = by (lex text) refl

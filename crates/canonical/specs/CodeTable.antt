@@ -41,7 +41,7 @@ pub data InTable (texts : List (List ℕ)) (Count Length : ℕ → Type 0) : Ans
   -- 0: acceptance, with its count
   accepted : {n : ℕ} → Count n → InTable texts Count Length (answer Bytes.accepted 0 0 n)
   -- 1: a lent table or work area is too short
-  short-room : InTable texts Count Length (answer Bytes.shortTable 0 0 0)
+  short-room : InTable texts Count Length (answer Bytes.shortRoom 0 0 0)
   -- 2: a text is too long; the position is the first byte beyond
   long-text : {n : ℕ} {text : List ℕ} → TextOf texts n text → maxText < length text → InTable texts Count Length (answer Bytes.longText n maxText 0)
   -- 3: a byte begins no token

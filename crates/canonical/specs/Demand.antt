@@ -42,7 +42,7 @@ pub record Serves (l : Lent) (bytes : List ℕ) : Type 0 where
 
 -- a refusal of what is lent: code 1 or 2
 abbrev pub IsGuard : Answer → Type 0
-IsGuard r = (r .code ≡ Code.shortTable) ⊎ (r .code ≡ Code.longText)
+IsGuard r = (r .code ≡ Code.shortRoom) ⊎ (r .code ≡ Code.longText)
 
 -- the four numbers, the output afterwards, and its first bytes, as many as the count says
 unfoldable pub numbers : List ℕ → List ℕ → Lent → Answer

@@ -126,7 +126,7 @@ pub fn canon(
     ensures { λ r. ⌜ now (work2 .exit) ≡ workAfter r (now (work2 .entry)) ⌝ }
 {
     if !rooms_serve(work1.len(), work2.len()) {
-        return no_text(lexis::code::Code::SHORT_TABLE, 0);
+        return no_text(lexis::code::Code::SHORT_ROOM, 0);
     }
     if !Limits::text_fits(list.len()) {
         return long_text(1);

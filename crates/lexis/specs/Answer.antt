@@ -44,7 +44,7 @@ recorded table (refused c p) = table
 unfoldable pub tokensAnswer : List ℕ → List ℕ → Answer
 tokensAnswer text table =
     let r = answerOf (counted (lex text)) in
-    cond (leb tableWords (length table)) (cond (leb (length text) maxText) r (answer Code.longText 1 maxText 0)) (answer Code.shortTable 0 0 0)
+    cond (leb tableWords (length table)) (cond (leb (length text) maxText) r (answer Code.longText 1 maxText 0)) (answer Code.shortRoom 0 0 0)
 
 -- what `tokens` leaves in the table: the records in front on acceptance, else what was there
 unfoldable pub tokensTable : List ℕ → List ℕ → List ℕ

@@ -6,8 +6,8 @@ abbrev pub accepted : ℕ
 accepted = 0
 
 -- code 1: a lent table or work area is too short
-abbrev pub shortTable : ℕ
-shortTable = 1
+abbrev pub shortRoom : ℕ
+shortRoom = 1
 
 -- code 2: the text is too long
 abbrev pub longText : ℕ

@@ -55,7 +55,7 @@ pub fn tokens(text: &[u8], table: &mut [u32]) -> Answer
 {
     if !Limits::table_serves(table.len()) {
         return Answer {
-            code: Code::SHORT_TABLE,
+            code: Code::SHORT_ROOM,
             text: 0,
             position: 0,
             detail: 0,

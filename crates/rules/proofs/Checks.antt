@@ -70,7 +70,7 @@ module _ (list doc work₁ work₂ calls wires : List ℕ) where
   unfolding checkAnswer callsAfter wiresAfter
   refused e h a = (rw e a, (rw e, (rw e, (kept work₁ h a, kept work₂ h a))))
 
-  pub refused-room : {r : Answer} → checkServes room ≡ false → r ≡ answer Code.shortTable 0 0 0 → Ensured r calls wires work₁ work₂
+  pub refused-room : {r : Answer} → checkServes room ≡ false → r ≡ answer Code.shortRoom 0 0 0 → Ensured r calls wires work₁ work₂
   unfolding checked
   refused-room e a = refused (guard-room list doc (bothStages list doc) e) refl a
 

@@ -17,7 +17,7 @@ use Rattle.rules.specs.Answer.{Stage, pass, stop, guarded, stageAnswer, 
 -- ---- the stages after the guards
 
 module _ {A : Type 0} (list doc : List ℕ) (s : Stage A) where
-  pub guard-room : {b : Bool} → b ≡ false → guarded b list doc s ≡ stop (answer Code.shortTable 0 0 0)
+  pub guard-room : {b : Bool} → b ≡ false → guarded b list doc s ≡ stop (answer Code.shortRoom 0 0 0)
   guard-room e = rw e
 
   pub guard-list : {b : Bool} → b ≡ true → leb (length list) maxText ≡ false → guarded b list doc s ≡ stop (answer Code.longText 1 maxText 0)
@@ -33,7 +33,7 @@ module _ {A : Type 0} (list doc : List ℕ) (s : Stage A) where
 
 -- the codes of the guards
 abbrev pub isGuard : ℕ → Bool
-isGuard c = eqb c Code.shortTable || eqb c Code.longText
+isGuard c = eqb c Code.shortRoom || eqb c Code.longText
 
 -- after a refusal by a guard a work area is as it was
 pub kept : (work : List ℕ) {q r : Answer} → isGuard (q .code) ≡ true → r ≡ q → work ≡ workAfter r work

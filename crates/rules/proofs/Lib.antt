@@ -1,6 +1,5 @@
--- The theorems and the worked cases, the pages to read first.
+-- The theorems, the page to read first.
 pub mod Theorems
-pub mod Cases
 -- The order of faults; texts that pass; wires.
 pub mod First
 pub mod Acceptance

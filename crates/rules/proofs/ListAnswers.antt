@@ -18,7 +18,7 @@ module _ (list work : List ℕ) where
   abbrev Ensured : Answer → List ℕ → Type 0
   Ensured r work' = (r ≡ declarationsAnswer list (length work)) × (work' ≡ workAfter r work)
 
-  pub refused-room : {r : Answer} → leb workWords (length work) ≡ false → r ≡ answer Code.shortTable 0 0 0 → Ensured r work
+  pub refused-room : {r : Answer} → leb workWords (length work) ≡ false → r ≡ answer Code.shortRoom 0 0 0 → Ensured r work
   unfolding declarationsAnswer declared
   refused-room e a = (rw e a, kept work refl a)
 

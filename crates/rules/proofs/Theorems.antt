@@ -124,7 +124,7 @@ list-first list doc r e = rw e
 -- ---- declarations
 
 module _ (list : List ℕ) (work : ℕ) where
-  pub declarations-room : work < workWords → declarationsAnswer list work ≡ answer Code.shortTable 0 0 0
+  pub declarations-room : work < workWords → declarationsAnswer list work ≡ answer Code.shortRoom 0 0 0
   unfolding declarationsAnswer declared
   declarations-room r = rw (lt-leb workWords work r)
 
@@ -199,7 +199,7 @@ guarded-codes {A} serves list doc s h r = go serves (leb (length list) maxText) 
 -- ---- check
 
 module _ (list doc : List ℕ) (l : CheckRoom) where
-  pub check-room : checkServes l ≡ false → checkAnswer list doc l ≡ answer Code.shortTable 0 0 0
+  pub check-room : checkServes l ≡ false → checkAnswer list doc l ≡ answer Code.shortRoom 0 0 0
   unfolding checkAnswer checked
   check-room e = rw e
 
@@ -254,11 +254,11 @@ module _ (list doc : List ℕ) (l : CheckRoom) where
       go (stop r) n = (refl, refl)
 
 -- after any answer but codes 1 and 2 a work area is zero over its full length, and these two leave it as it was
-pub work-zero : (r : Answer) (work : List ℕ) → (r .code ≡ Code.shortTable → ⊥) → (r .code ≡ Code.longText → ⊥) → workAfter r work ≡ replicate (length work) 0
+pub work-zero : (r : Answer) (work : List ℕ) → (r .code ≡ Code.shortRoom → ⊥) → (r .code ≡ Code.longText → ⊥) → workAfter r work ≡ replicate (length work) 0
 unfolding workAfter
 work-zero r work a b = rw (ne-eqb (r .code) 1 a, ne-eqb (r .code) 2 b)
 
-pub work-kept : (r : Answer) (work : List ℕ) → (r .code ≡ Code.shortTable) ⊎ (r .code ≡ Code.longText) → workAfter r work ≡ work
+pub work-kept : (r : Answer) (work : List ℕ) → (r .code ≡ Code.shortRoom) ⊎ (r .code ≡ Code.longText) → workAfter r work ≡ work
 unfolding workAfter
 work-kept r work (inl e) = rw e
 work-kept r work (inr e) = rw e

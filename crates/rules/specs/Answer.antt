@@ -75,7 +75,7 @@ bothStages list doc = andThen (listStages list) (λ hs. andThen (documentStages 
 
 -- code 1: too little room is lent
 abbrev pub roomy : {A : Type 0} → Bool → Stage A → Stage A
-roomy b s = guard b (answer Code.shortTable 0 0 0) s
+roomy b s = guard b (answer Code.shortRoom 0 0 0) s
 
 -- code 2: the text of this number is too long
 abbrev pub short : {A : Type 0} → ℕ → List ℕ → Stage A → Stage A
@@ -140,4 +140,4 @@ wiresAfter s table = tableAfter s (λ k. wireTable (k .document)) table
 
 -- a work area: after code 1 or 2 as it was, after any other answer zero over its full length
 unfoldable pub workAfter : Answer → List ℕ → List ℕ
-workAfter r work = cond (eqb (r .code) Code.shortTable || eqb (r .code) Code.longText) work (replicate (length work) 0)
+workAfter r work = cond (eqb (r .code) Code.shortRoom || eqb (r .code) Code.longText) work (replicate (length work) 0)

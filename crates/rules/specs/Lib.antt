@@ -1,7 +1,6 @@
 -- The rules of operation lists and documents, in the order in which to read them.
 pub mod Code
 pub mod Fault
-pub mod Best
 pub mod Names
 pub mod Reading
 pub mod ListRules
@@ -12,7 +11,8 @@ pub mod Tables
 pub mod Answer
 pub mod Accepted
 pub mod Wired
--- What only the contracts of the code cite: fitting; operation lists; arguments; names, calls and documents.
+-- What only the contracts of the code cite: the first fault of a walk; fitting; operation lists; arguments; names, calls and documents.
+pub mod Best
 pub mod Fitting
 pub mod Lists
 pub mod Found

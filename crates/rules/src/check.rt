@@ -128,7 +128,7 @@ pub fn check(
 {
     if !rooms_serve(work1.len(), work2.len(), calls.len(), wires.len()) {
         return Answer {
-            code: Code::SHORT_TABLE,
+            code: Code::SHORT_ROOM,
             text: 0,
             position: 0,
             detail: 0,

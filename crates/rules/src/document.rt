@@ -17,6 +17,7 @@ ghost use Rattle.syntax.specs.Tree.{Document};
 ghost use Rattle.syntax.specs.Parser.{document};
 ghost use Rattle.syntax.specs.Parser.Parse.{ok};
 ghost use Rattle.syntax.specs.Table.{tokenAt, toks, Holds};
+ghost use Rattle.rules.specs.Code as C;
 ghost use Rattle.rules.specs.Fault.{first, fault, unless};
 ghost use Rattle.rules.specs.Best.{meant};
 ghost use Rattle.rules.specs.Walks.{ownFaults};
@@ -24,7 +25,7 @@ ghost use Rattle.rules.specs.Walks.{ownFaults};
 // The version, which stands at place 1, is not spelt `1.0`.
 fn bad_version(text: &[u8], table: &[u32], n: usize) -> Best
     requires { ⌜ Holds (now text) (now table) n ⌝ }
-    ensures { λ r. ⌜ (1 < n → meant r ≡ first (unless (sameBytes (tokenAt (now (text .entry)) (now (table .entry)) 1 .bytes) (ascii "1.0")) (fault 11 (tokenAt (now (text .entry)) (now (table .entry)) 1 .start)))) ⌝ }
+    ensures { λ r. ⌜ (1 < n → meant r ≡ first (unless (sameBytes (tokenAt (now (text .entry)) (now (table .entry)) 1 .bytes) (ascii "1.0")) (fault C.wrongVersion (tokenAt (now (text .entry)) (now (table .entry)) 1 .start)))) ⌝ }
 {
     if n <= 1 {
         return Best::none();

@@ -29,6 +29,7 @@ ghost use Rattle.syntax.specs.Tree.{Param, Header};
 ghost use Rattle.syntax.specs.Parser.{param, header};
 ghost use Rattle.syntax.specs.Parser.Parse.{ok};
 ghost use Rattle.syntax.specs.Table.{startAt, tokenAt, toks, placeOf, Holds};
+ghost use Rattle.rules.specs.Code as C;
 ghost use Rattle.rules.specs.Fault.{fault, faults, starts, first};
 ghost use Rattle.rules.specs.Best.{meant};
 ghost use Rattle.rules.specs.Names.{repeatsAfter};
@@ -41,7 +42,7 @@ ghost use Rattle.rules.specs.Lists.{isA, Params, defaultFaults, headerFa
 fn misfit_at(text: &[u8], table: &[u32], n: usize, i: usize) -> Best
     requires { ⌜ Holds (now text) (now table) n ⌝ }
     requires { ⌜ length (now text) ≤ maxText ⌝ }
-    ensures { λ r. ⌜ meant r ≡ some (fault 14 (placeOf (length (now (text .entry))) (toks (now (text .entry)) (now (table .entry)) n i))) ⌝ }
+    ensures { λ r. ⌜ meant r ≡ some (fault C.badDefault (placeOf (length (now (text .entry))) (toks (now (text .entry)) (now (table .entry)) n i))) ⌝ }
 {
     Best {
         at: place_at(text, table, n, i) as u32,
@@ -119,7 +120,7 @@ fn repeat_of(text: &[u8], table: &[u32], n: usize, names: &[u32], k: usize) -> B
     requires { ⌜ Holds (now text) (now table) n ⌝ }
     requires { ⌜ NamePlaces n (now names) ⌝ }
     requires { ⌜ k < length (now names) ⌝ }
-    ensures { λ r. ⌜ meant r ≡ first (faults 13 (starts (repeatsAfter (entries (now (text .entry)) (now (table .entry)) (take k (now (names .entry)))) (tokenAt (now (text .entry)) (now (table .entry)) (getD (now (names .entry)) k 0) ∷ [])))) ⌝ }
+    ensures { λ r. ⌜ meant r ≡ first (faults C.repeatedName (starts (repeatsAfter (entries (now (text .entry)) (now (table .entry)) (take k (now (names .entry)))) (tokenAt (now (text .entry)) (now (table .entry)) (getD (now (names .entry)) k 0) ∷ [])))) ⌝ }
 {
     let q = word(names, k);
     let Lookup::At(_k) = find(text, table, n, &names[0..k], text, table, n, q) else {

@@ -42,7 +42,7 @@ pub fn declarations(list: &[u8], work: &mut [u32]) -> Answer
 {
     if !Limits::work_serves(work.len()) {
         return Answer {
-            code: Code::SHORT_TABLE,
+            code: Code::SHORT_ROOM,
             text: 0,
             position: 0,
             detail: 0,
