@@ -51,7 +51,8 @@ module _ (text table : List ℕ) where
   unfolding tokensAnswer
   tokens-fault c p r l e = rw (le-leb tableWords (length table) r, le-leb (length text) maxText l, e)
 
-  pub tokens-accepted : tokensAnswer text table .code ≡ Code.accepted → (tableWords ≤ length table) × ((length text ≤ maxText) × ((ts : List Token) × (lex text ≡ accepted ts)))
+  pub tokens-accepted : tokensAnswer text table .code ≡ Code.accepted
+      → (tableWords ≤ length table) × ((length text ≤ maxText) × ((ts : List Token) × (lex text ≡ accepted ts)))
   unfolding tokensAnswer
   tokens-accepted e = go (leb tableWords (length table)) (leb (length text) maxText) (lex text) refl refl refl e
     where
@@ -68,17 +69,20 @@ module _ (text table : List ℕ) where
 pub work-after : (r : Answer) (work : List ℕ) → ((IsGuard r → ⊥) → workAfter r work ≡ replicate (length work) 0) × (IsGuard r → workAfter r work ≡ work)
 work-after r work = (λ n. work-zero r work (λ e. n (inl e)) (λ e. n (inr e)), λ g. work-kept r work g)
 
-pub works-after : (r : Answer) (work₁ work₂ : List ℕ) → ((IsGuard r → ⊥) → (workAfter r work₁ ≡ replicate (length work₁) 0) × (workAfter r work₂ ≡ replicate (length work₂) 0))
+pub works-after : (r : Answer) (work₁ work₂ : List ℕ)
+    → ((IsGuard r → ⊥) → (workAfter r work₁ ≡ replicate (length work₁) 0) × (workAfter r work₂ ≡ replicate (length work₂) 0))
     × (IsGuard r → (workAfter r work₁ ≡ work₁) × (workAfter r work₂ ≡ work₂))
 works-after r work₁ work₂ = let a = work-after r work₁ in let b = work-after r work₂ in (λ n. (a .0 n, b .0 n), λ g. (a .1 g, b .1 g))
 
 -- ---- refusals
 
-pub declarations-refuses : (list : List ℕ) (work : ℕ) (q : Answer) → workWords ≤ work → length list ≤ maxText → listStages list ≡ stop q → declarationsAnswer list work ≡ q
+pub declarations-refuses : (list : List ℕ) (work : ℕ) (q : Answer) → workWords ≤ work → length list ≤ maxText → listStages list ≡ stop q
+    → declarationsAnswer list work ≡ q
 declarations-refuses list work q r l e = declarations-stages list work r l ∙ ap (λ (s : Stage (List Header)). stageAnswer s length) e
 
 -- a list that declarations does not accept stops the stages of both texts, with the same numbers
-refused-list : (list doc : List ℕ) (work : ℕ) → workWords ≤ work → length list ≤ maxText → (declarationsAnswer list work .code ≡ Code.accepted → ⊥) → bothStages list doc ≡ stop (declarationsAnswer list work)
+refused-list : (list doc : List ℕ) (work : ℕ) → workWords ≤ work → length list ≤ maxText → (declarationsAnswer list work .code ≡ Code.accepted → ⊥)
+    → bothStages list doc ≡ stop (declarationsAnswer list work)
 refused-list list doc work r l n = go (listStages list) refl
   where
     go : (s : Stage (List Header)) → listStages list ≡ s → bothStages list doc ≡ stop (declarationsAnswer list work)

@@ -156,7 +156,8 @@ module _ {list doc work₁ work₂ : List ℕ} {n k m : ℕ} (b : BothPassed lis
     unfolding writingStages
     too-large f a = let e = sym (limits-are w) ∙ f in wrote-stopped (left-are (length out) ∙ rw e) a unmoved
 
-    pub too-short : {r : Answer} → keepsLimits s ≡ true → length (none ++ out) < s .bytes → r ≡ answer 26 0 0 (s .bytes) → Wrote (textStages list doc (length out)) out (none ++ out) r
+    pub too-short : {r : Answer} → keepsLimits s ≡ true → length (none ++ out) < s .bytes → r ≡ answer 26 0 0 (s .bytes)
+        → Wrote (textStages list doc (length out)) out (none ++ out) r
     unfolding writingStages
     too-short f l a =
         let e = sym (limits-are w) ∙ f in
@@ -164,7 +165,8 @@ module _ {list doc work₁ work₂ : List ℕ} {n k m : ℕ} (b : BothPassed lis
         let h = lt-leb (length (text laid)) (length out) (omega (arith, l, same-length, c)) in
         wrote-stopped (left-are (length out) ∙ rw (e, h)) (a ∙ ap (λ (x : ℕ). answer 26 0 0 x) c) unmoved
 
-    pub all-written : {r : Answer} {out' : List ℕ} {s' : Place} → keepsLimits s ≡ true → s .bytes ≤ length (none ++ out) → PutsAll laid (none ++ out) out' s' → r ≡ answer 0 0 0 (s .bytes)
+    pub all-written : {r : Answer} {out' : List ℕ} {s' : Place} → keepsLimits s ≡ true → s .bytes ≤ length (none ++ out)
+        → PutsAll laid (none ++ out) out' s' → r ≡ answer 0 0 0 (s .bytes)
         → Wrote (textStages list doc (length out)) out out' r
     unfolding writingStages outputAfter
     all-written f l v a =
@@ -204,13 +206,16 @@ module _ (list doc work₁ work₂ out : List ℕ) where
   unfolding written
   refused-list e f a = refused (guard-list list doc (textStages list doc (length out)) e f) refl a
 
-  pub refused-document : {r : Answer} → canonServes room ≡ true → leb (length list) maxText ≡ true → leb (length doc) maxText ≡ false → r ≡ answer L.longText 2 maxText 0 → Ensured r out work₁ work₂
+  pub refused-document : {r : Answer} → canonServes room ≡ true → leb (length list) maxText ≡ true → leb (length doc) maxText ≡ false
+      → r ≡ answer L.longText 2 maxText 0 → Ensured r out work₁ work₂
   unfolding written
   refused-document e f g a = refused (guard-document list doc (textStages list doc (length out)) e f g) refl a
 
   -- the stages after the guards, then both work areas are cleared
-  pub ended : {r : Answer} {out' work₁' work₂' : List ℕ} {n m : ℕ} → canonServes room ≡ true → leb (length list) maxText ≡ true → leb (length doc) maxText ≡ true
-      → Wrote (textStages list doc (length out)) out out' r → work₁' ≡ replicate n 0 → n ≡ length work₁ → work₂' ≡ replicate m 0 → m ≡ length work₂ → Ensured r out' work₁' work₂'
+  pub ended : {r : Answer} {out' work₁' work₂' : List ℕ} {n m : ℕ} → canonServes room ≡ true → leb (length list) maxText ≡ true
+      → leb (length doc) maxText ≡ true
+      → Wrote (textStages list doc (length out)) out out' r → work₁' ≡ replicate n 0 → n ≡ length work₁ → work₂' ≡ replicate m 0 → m ≡ length work₂
+      → Ensured r out' work₁' work₂'
   unfolding canonAnswer written
   ended {n = n} {m} e f g w z i y j =
       let t = textStages list doc (length out) in

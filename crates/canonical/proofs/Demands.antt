@@ -106,7 +106,8 @@ pub tokens-accepted : (text table : List ℕ) → tokensAnswer text table .code 
 tokens-accepted = Answers.tokens-accepted
 
 -- otherwise the first fault of the bytes
-pub tokens-fault : (text table : List ℕ) (c p : ℕ) → tableWords ≤ length table → length text ≤ maxText → lex text ≡ refused c p → tokensAnswer text table ≡ answer c 1 p 0
+pub tokens-fault : (text table : List ℕ) (c p : ℕ) → tableWords ≤ length table → length text ≤ maxText → lex text ≡ refused c p
+    → tokensAnswer text table ≡ answer c 1 p 0
 tokens-fault = Answers.tokens-fault
 
 -- words beyond those written keep their contents
@@ -126,7 +127,8 @@ pub declarations-long : (list : List ℕ) (work : ℕ) → workWords ≤ work �
 declarations-long = Rules.declarations-long
 
 -- an accepted list is answered 0, 0, 0 and the number of its operations, and code 0 is answered to no other
-pub declarations-accepts : (list : List ℕ) (work : ℕ) (hs : List Header) → workWords ≤ work → AcceptedList list hs → declarationsAnswer list work ≡ answer Code.accepted 0 0 (length hs)
+pub declarations-accepts : (list : List ℕ) (work : ℕ) (hs : List Header) → workWords ≤ work → AcceptedList list hs
+    → declarationsAnswer list work ≡ answer Code.accepted 0 0 (length hs)
 declarations-accepts = Rules.declarations-accepts
 
 pub declarations-accepted : (list : List ℕ) (work : ℕ) → declarationsAnswer list work .code ≡ Code.accepted → (hs : List Header) × AcceptedList list hs
@@ -153,7 +155,8 @@ check-room = Rules.check-room
 pub check-long : (list doc : List ℕ) (l : CheckRoom) → checkServes l ≡ true → maxText < length list → checkAnswer list doc l ≡ answer Code.longText 1 maxText 0
 check-long = Rules.check-long
 
-pub check-long-document : (list doc : List ℕ) (l : CheckRoom) → checkServes l ≡ true → length list ≤ maxText → maxText < length doc → checkAnswer list doc l ≡ answer Code.longText 2 maxText 0
+pub check-long-document : (list doc : List ℕ) (l : CheckRoom) → checkServes l ≡ true → length list ≤ maxText → maxText < length doc
+    → checkAnswer list doc l ≡ answer Code.longText 2 maxText 0
 check-long-document = Rules.check-long-document
 
 -- a list that declarations refuses, check refuses with the same four numbers
@@ -175,11 +178,13 @@ module _ (list doc : List ℕ) (l : CheckRoom) (hs : List Header) (r : checkServ
   pub check-bytes : (c p : ℕ) → length doc ≤ maxText → lex doc ≡ refused c p → checkAnswer list doc l ≡ answer c 2 p 0
   check-bytes c p m e = Rules.check-refuses list doc l _ r (a .short) m (Rules.document-bytes list doc hs a c p e)
 
-  pub check-syntax : (c : ℕ) (ts us : List Token) → length doc ≤ maxText → lex doc ≡ accepted ts → FirstFault (λ b xs. (d : Document) × IsDocument b xs d) maxBrackets c ts us
+  pub check-syntax : (c : ℕ) (ts us : List Token) → length doc ≤ maxText → lex doc ≡ accepted ts
+      → FirstFault (λ b xs. (d : Document) × IsDocument b xs d) maxBrackets c ts us
       → checkAnswer list doc l ≡ answer c 2 (placeOf (length doc) us) 0
   check-syntax c ts us m e f = Rules.check-refuses list doc l _ r (a .short) m (Rules.document-syntax list doc hs a c ts us e f)
 
-  pub check-rules : (ts : List Token) (d : Document) (x : Fault) → length doc ≤ maxText → lex doc ≡ accepted ts → IsDocument maxBrackets ts d → IsFirst x (documentFaults hs d)
+  pub check-rules : (ts : List Token) (d : Document) (x : Fault) → length doc ≤ maxText → lex doc ≡ accepted ts → IsDocument maxBrackets ts d
+      → IsFirst x (documentFaults hs d)
       → checkAnswer list doc l ≡ answer (x .code) 2 (x .at) (x .detail)
   check-rules ts d x m e s f = Rules.check-refuses list doc l _ r (a .short) m (Rules.document-rules list doc hs a ts d x e s f)
 
@@ -189,7 +194,8 @@ pub check-accepted : (list doc : List ℕ) (l : CheckRoom) → checkAnswer list 
 check-accepted = Rules.check-accepted
 
 -- the call that a wire names comes before the call that uses the identifier, and assigns it
-pub wire-below : (hs : List Header) (doc : List ℕ) (d : Document) → AcceptedDocument hs doc d → (before : List Call) (c : Call) (after : List Call) (xs : List Token) (t : Token) (ys : List Token)
+pub wire-below : (hs : List Header) (doc : List ℕ) (d : Document) → AcceptedDocument hs doc d
+    → (before : List Call) (c : Call) (after : List Call) (xs : List Token) (t : Token) (ys : List Token)
     → d .calls ≡ before ++ (c ∷ after) → used c ≡ xs ++ (t ∷ ys) → AssignedBy (d .calls) (assigner (d .calls) t) (length before) t
 wire-below = Rules.wire-below
 
@@ -201,7 +207,8 @@ canon-room = Answers.canon-room
 pub canon-long : (list doc : List ℕ) (l : Lent) → canonServes (roomOf l) ≡ true → maxText < length list → numbers list doc l ≡ answer Code.longText 1 maxText 0
 canon-long = Answers.canon-long
 
-pub canon-long-document : (list doc : List ℕ) (l : Lent) → canonServes (roomOf l) ≡ true → length list ≤ maxText → maxText < length doc → numbers list doc l ≡ answer Code.longText 2 maxText 0
+pub canon-long-document : (list doc : List ℕ) (l : Lent) → canonServes (roomOf l) ≡ true → length list ≤ maxText → maxText < length doc
+    → numbers list doc l ≡ answer Code.longText 2 maxText 0
 canon-long-document = Answers.canon-long-document
 
 -- a list that declarations refuses, and what check refuses, canon refuses with the same four numbers
@@ -256,7 +263,8 @@ module _ (list : List ℕ) (hs : List Header) (fixed : AcceptedList list hs) whe
     canon-bytes = Canonical.canon-bytes list hs fixed doc p h k
 
   -- The two plans are equal exactly when the two lengths and all the bytes written are equal.
-  pub equal-plans : (doc₁ doc₂ : List ℕ) (p q : Plan) (h : HasPlan hs doc₁ p) (g : HasPlan hs doc₂ q) → Keeps hs p → Keeps hs q → (l m : Lent) → Serves l (canonical hs p) → Serves m (canonical hs q)
+  pub equal-plans : (doc₁ doc₂ : List ℕ) (p q : Plan) (h : HasPlan hs doc₁ p) (g : HasPlan hs doc₂ q) → Keeps hs p → Keeps hs q → (l m : Lent)
+      → Serves l (canonical hs p) → Serves m (canonical hs q)
       → (p ≡ q) ↔ ((numbers list doc₁ l .detail ≡ numbers list doc₂ m .detail) × (bytesWritten list doc₁ l ≡ bytesWritten list doc₂ m))
   equal-plans = Canonical.equal-plans list hs fixed
 

@@ -64,7 +64,8 @@ byte-code c l m = let e : 3 + (c - 3) ≡ c = omega (arith, l, m) in rw e at (si
 -- ---- refusals of one text
 
 -- the place of a syntax fault is where a token starts, or the end
-place-line : (text : List ℕ) (ts us before : List Token) → lex text ≡ lexed ts → ts ≡ before ++ us → StartsToken text (placeOf (length text) us) ⊎ (placeOf (length text) us ≡ length text)
+place-line : (text : List ℕ) (ts us before : List Token) → lex text ≡ lexed ts → ts ≡ before ++ us
+    → StartsToken text (placeOf (length text) us) ⊎ (placeOf (length text) us ≡ length text)
 place-line text ts [] before e s = inr refl
 place-line text ts (t ∷ us) before e s = inl (record { before = before; token = t; after = us; among = e ∙ ap (λ (xs : List Token). lexed xs) s; start = refl })
 
@@ -137,13 +138,15 @@ alone {A} Count text s n h k serves = go serves (leb (length text) maxText) refl
     by l (pass a) e = T.accepted (h l a e)
     by l (stop r) e = k r e
 
-    go : (a b : Bool) → leb (length text) maxText ≡ b → InTable (text ∷ []) Count NoText (stageAnswer (guard a (answer Bytes.shortRoom 0 0 0) (guard b (answer Bytes.longText 1 maxText 0) s)) n)
+    go : (a b : Bool) → leb (length text) maxText ≡ b
+        → InTable (text ∷ []) Count NoText (stageAnswer (guard a (answer Bytes.shortRoom 0 0 0) (guard b (answer Bytes.longText 1 maxText 0) s)) n)
     go false b e = T.short-room
     go true false e = T.long-text first-text (leb-false (length text) maxText e)
     go true true e = by (leb-true (length text) maxText e) s refl
 
 -- the answer of an operation on a list and a document
-under : {A : Type 0} (Count Length : ℕ → Type 0) (list doc : List ℕ) (s : Stage A) (n : A → ℕ) → (length list ≤ maxText → length doc ≤ maxText → InTable (list ∷ doc ∷ []) Count Length (stageAnswer s n))
+under : {A : Type 0} (Count Length : ℕ → Type 0) (list doc : List ℕ) (s : Stage A) (n : A → ℕ)
+    → (length list ≤ maxText → length doc ≤ maxText → InTable (list ∷ doc ∷ []) Count Length (stageAnswer s n))
     → (serves : Bool) → InTable (list ∷ doc ∷ []) Count Length (stageAnswer (guarded serves list doc s) n)
 under Count Length list doc s n h serves = go serves (leb (length list) maxText) (leb (length doc) maxText) refl refl
   where
@@ -188,7 +191,8 @@ pub check-in : (list doc : List ℕ) (l : CheckRoom) → InTable (list ∷ doc �
 unfolding checkAnswer checked
 check-in list doc l = under (CallCount list doc) NoText list doc (bothStages list doc) callCount (λ a b. by a b (bothStages list doc) refl) (checkServes l)
   where
-    by : length list ≤ maxText → length doc ≤ maxText → (s : Stage Checked) → bothStages list doc ≡ s → InTable (list ∷ doc ∷ []) (CallCount list doc) NoText (stageAnswer s callCount)
+    by : length list ≤ maxText → length doc ≤ maxText → (s : Stage Checked) → bothStages list doc ≡ s
+        → InTable (list ∷ doc ∷ []) (CallCount list doc) NoText (stageAnswer s callCount)
     by a b (pass k) e = let v = both-passed list doc k a b e in T.accepted (k .headers, (k .document, (v .0, (v .1, refl))))
     by a b (stop r) e = both-refused (CallCount list doc) NoText list doc r e
 

@@ -54,7 +54,8 @@ unfolding layoutOf
 layout-is hs d p e = rw e
 
 -- lent the room asked, the stages that are left of an accepted document are those of writing its pieces
-written-stages : (list doc : List ℕ) (hs : List Header) (p : Plan) → AcceptedList list hs → (h : HasPlan hs doc p) (l : Lent) → workWords ≤ l .work₁ → workWords ≤ l .work₂
+written-stages : (list doc : List ℕ) (hs : List Header) (p : Plan) → AcceptedList list hs → (h : HasPlan hs doc p) (l : Lent) → workWords ≤ l .work₁
+    → workWords ≤ l .work₂
     → written list doc (roomOf l) ≡ writingStages (documentPieces hs p) (length (l .out))
 unfolding written textStages
 written-stages list doc hs p a h l w₁ w₂ =
@@ -67,12 +68,14 @@ unfolding writingStages
 writing-good ps out b t o = rw (le-leb (length (text ps)) maxText b, le-leb (length ps) maxTokens t, le-leb (length (text ps)) out o)
 
 -- and what passes them keeps the limits and fits the output
-writing-kept : (hs : List Header) (p : Plan) (out : ℕ) (bytes : List ℕ) → writingStages (documentPieces hs p) out ≡ pass bytes → Keeps hs p × (length (canonical hs p) ≤ out)
+writing-kept : (hs : List Header) (p : Plan) (out : ℕ) (bytes : List ℕ) → writingStages (documentPieces hs p) out ≡ pass bytes
+    → Keeps hs p × (length (canonical hs p) ≤ out)
 unfolding writingStages canonical
 writing-kept hs p out bytes e = go (leb (length (canonical hs p)) maxText) (leb (length (documentPieces hs p)) maxTokens) (leb (length (canonical hs p)) out) refl refl refl e
   where
     go : (a b c : Bool) → leb (length (canonical hs p)) maxText ≡ a → leb (length (documentPieces hs p)) maxTokens ≡ b → leb (length (canonical hs p)) out ≡ c
-        → guard (a && b) (answer 25 0 0 0) (guard c (answer 26 0 0 (length (canonical hs p))) (pass (canonical hs p))) ≡ pass bytes → Keeps hs p × (length (canonical hs p) ≤ out)
+        → guard (a && b) (answer 25 0 0 0) (guard c (answer 26 0 0 (length (canonical hs p))) (pass (canonical hs p))) ≡ pass bytes
+        → Keeps hs p × (length (canonical hs p) ≤ out)
     go false b c x y z e = let q : _≡_ {A = ℕ} 0 1 = cc in absurd (omega arith)
     go true false c x y z e = let q : _≡_ {A = ℕ} 0 1 = cc in absurd (omega arith)
     go true true false x y z e = let q : _≡_ {A = ℕ} 0 1 = cc in absurd (omega arith)
@@ -129,7 +132,8 @@ module _ (list : List ℕ) (hs : List Header) (fixed : AcceptedList list hs) whe
       (canon-answers (canonical hs p) p g k m t ∙ sym (canon-answers doc p h k l s), canon-bytes (canonical hs p) p g k m t ∙ sym (canon-bytes doc p h k l s))
 
   -- Two plans are equal exactly when the two lengths and all the bytes written are equal.
-  pub equal-plans : (doc₁ doc₂ : List ℕ) (p q : Plan) (h : HasPlan hs doc₁ p) (g : HasPlan hs doc₂ q) → Keeps hs p → Keeps hs q → (l m : Lent) → Serves l (canonical hs p) → Serves m (canonical hs q)
+  pub equal-plans : (doc₁ doc₂ : List ℕ) (p q : Plan) (h : HasPlan hs doc₁ p) (g : HasPlan hs doc₂ q) → Keeps hs p → Keeps hs q → (l m : Lent)
+      → Serves l (canonical hs p) → Serves m (canonical hs q)
       → (p ≡ q) ↔ ((numbers list doc₁ l .detail ≡ numbers list doc₂ m .detail) × (bytesWritten list doc₁ l ≡ bytesWritten list doc₂ m))
   equal-plans doc₁ doc₂ p q h g k j l m s t =
       let a = canon-bytes doc₁ p h k l s in
@@ -145,7 +149,8 @@ module _ (list : List ℕ) (hs : List Header) (fixed : AcceptedList list hs) whe
 -- ---- acceptance and refusals of canon
 
 -- lent the room asked, what check refuses canon refuses with the same four numbers
-pub refuses-as-check : (list doc : List ℕ) (l : Lent) (k : CheckRoom) → canonServes (roomOf l) ≡ true → checkServes k ≡ true → (checkAnswer list doc k .code ≡ Code.accepted → ⊥)
+pub refuses-as-check : (list doc : List ℕ) (l : Lent) (k : CheckRoom) → canonServes (roomOf l) ≡ true → checkServes k ≡ true
+    → (checkAnswer list doc k .code ≡ Code.accepted → ⊥)
     → numbers list doc l ≡ checkAnswer list doc k
 unfolding numbers canonAnswer written textStages checkAnswer checked
 refuses-as-check list doc l k s t n = rw (s, t) (go (leb (length list) maxText) (leb (length doc) maxText) (bothStages list doc) (rw t at n))
