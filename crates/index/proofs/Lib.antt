@@ -1,0 +1,7 @@
+-- The theorems, the page to read first.
+pub mod Theorems
+-- The laws: spellings, the hash, the search along a chain, and one more name entered.
+pub mod Spellings
+pub mod Hashes
+pub mod Chains
+pub mod Steps
