@@ -8,8 +8,8 @@ use lib.ListN.{length}
 use Rattle.lexis.specs.Lexer.{Token}
 use Rattle.syntax.specs.Tree.{Header, Call, Document}
 use Rattle.syntax.specs.Grammar.{IsList}
-use Rattle.rules.specs.Names.{assigned, used, allAssigned, allUsed}
-use Rattle.rules.specs.Reading.{resultType}
+use Rattle.lists.specs.Names.{assigned, used, allAssigned, allUsed}
+use Rattle.lists.specs.Reading.{resultType}
 use Rattle.canonical.specs.Plan.{PlanCall, Plan, spellings, planOf}
 use Rattle.canonical.proofs.Shape.{CanonCall, CanonCalls, no-calls, a-call, CanonDocument}
 use Rattle.canonical.proofs.Found.{find-same}

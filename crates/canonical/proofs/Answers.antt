@@ -18,9 +18,11 @@ use Rattle.lexis.specs.Answer.{answer, records, answerOf, counted, tokensAnswer
 use Rattle.lexis.specs.declared.Answer.{Answer}
 use Rattle.lexis.proofs.Theorems.{coded}
 use Rattle.syntax.specs.Tree.{Header}
-use Rattle.rules.specs.Answer.{Stage, pass, stop, guarded, stageAnswer, listStages, bothStages, declarationsAnswer, CheckRoom, checkServes, checkAnswer, workAfter}
-use Rattle.rules.specs.Accepted.{AcceptedList}
-use Rattle.rules.proofs.Theorems.{declarations-stages, list-first, check-refuses, guarded-long, guarded-long-document, guarded-good, work-zero, work-kept}
+use Rattle.lists.specs.Answer.{Stage, pass, stop, guarded, stageAnswer, listStages, declarationsAnswer, workAfter}
+use Rattle.lists.specs.Accepted.{AcceptedList}
+use Rattle.lists.proofs.Theorems.{declarations-stages, work-zero, work-kept}
+use Rattle.documents.specs.Answer.{bothStages, CheckRoom, checkServes, checkAnswer}
+use Rattle.documents.proofs.Theorems.{list-first, check-refuses, guarded-long, guarded-long-document, guarded-good}
 use Rattle.canonical.specs.Plan.{Plan}
 use Rattle.canonical.specs.Pieces.{Piece, tokensAt}
 use Rattle.canonical.specs.Layout.{documentPieces, canonical}

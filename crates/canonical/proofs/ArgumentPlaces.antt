@@ -27,16 +27,16 @@ use Rattle.syntax.proofs.Tails.{type-tails}
 use Rattle.syntax.proofs.Table.{toks-rest}
 use Rattle.syntax.proofs.Row.{Shrinks}
 use Rattle.syntax.proofs.Shrinks.{argument-shrinks}
-use Rattle.rules.specs.declared.parameter.Next.the-variants.{Item, End}
-use Rattle.rules.specs.Reading.{Val, bind, isSome, readAt}
-use Rattle.rules.specs.Binding.{orElse}
-use Rattle.rules.specs.Arguments.{GoesOn}
-use Rattle.rules.specs.Arguments.GoesOn.{more, last}
-use Rattle.rules.proofs.RowParses.{mapped-ok, Rowed, row-ok, param-ok}
-use Rattle.rules.proofs.RowParses.Rowed.{next}
-use Rattle.rules.proofs.RowParses.Rowed.{last as row-last}
-use Rattle.rules.proofs.Items.{left-at, clash, param-name, param-type, required-is}
-use Rattle.rules.proofs.ArgumentCalls.{value-starts, with-label, without-label}
+use Rattle.lists.specs.Reading.{Val, bind, isSome, readAt}
+use Rattle.documents.specs.declared.parameter.Next.the-variants.{Item, End}
+use Rattle.documents.specs.Binding.{orElse}
+use Rattle.documents.specs.Arguments.{GoesOn}
+use Rattle.documents.specs.Arguments.GoesOn.{more, last}
+use Rattle.documents.proofs.RowParses.{mapped-ok, Rowed, row-ok, param-ok}
+use Rattle.documents.proofs.RowParses.Rowed.{next}
+use Rattle.documents.proofs.RowParses.Rowed.{last as row-last}
+use Rattle.documents.proofs.Items.{left-at, clash, param-name, param-type, required-is}
+use Rattle.documents.proofs.ArgumentCalls.{value-starts, with-label, without-label}
 use Rattle.canonical.specs.Plan.{valueFor}
 use Rattle.canonical.specs.declared.argument.Bound.{Bound}
 use Rattle.canonical.specs.declared.argument.Bound.the-variants.{At, Missing}

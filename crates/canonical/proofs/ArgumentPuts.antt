@@ -16,12 +16,12 @@ use Rattle.syntax.specs.Parser.{argument as anArgument}
 use Rattle.syntax.specs.Parser.Parse.{ok}
 use Rattle.syntax.specs.Table.{tokenAt, toks}
 use Rattle.syntax.proofs.Shrinks.{param-shrinks}
-use Rattle.rules.specs.declared.parameter.Next.the-variants.{Item, End}
-use Rattle.rules.specs.Reading.{Val}
-use Rattle.rules.specs.Binding.{slots, misplaced}
-use Rattle.rules.specs.Arguments.{GoesOn}
-use Rattle.rules.specs.Arguments.GoesOn.{more, last}
-use Rattle.rules.proofs.Items.{clash, param-there, param-name}
+use Rattle.lists.specs.Reading.{Val}
+use Rattle.documents.specs.declared.parameter.Next.the-variants.{Item, End}
+use Rattle.documents.specs.Binding.{slots, misplaced}
+use Rattle.documents.specs.Arguments.{GoesOn}
+use Rattle.documents.specs.Arguments.GoesOn.{more, last}
+use Rattle.documents.proofs.Items.{clash, param-there, param-name}
 use Rattle.canonical.specs.Plan.{valueFor, valuesFor}
 use Rattle.canonical.specs.declared.place.Place.{Place}
 use Rattle.canonical.specs.Layout.{mark, pieces, argumentPieces, moreArgumentsPieces, argumentsPieces}

@@ -13,14 +13,14 @@ use lib.ListN.{drop}
 use Rattle.lexis.specs.Words.{sameBytes}
 use Rattle.syntax.specs.Tree.{Value, Param, Arg}
 use Rattle.syntax.specs.Tree.Arg.{positional, named}
-use Rattle.rules.specs.Fault.{Fault, fault, unless}
-use Rattle.rules.specs.Names.{startOf}
-use Rattle.rules.specs.Reading.{Val, bind, allTensor}
-use Rattle.rules.specs.Binding.{Slot, leading, byPlace, later, byName, orElse, slotsFrom, slots, misplacedFrom, misplaced}
-use Rattle.rules.proofs.Items.{clash}
-use Rattle.rules.proofs.Sought.{Nth}
-use Rattle.rules.proofs.Sought.Nth.{first, after}
-use Rattle.rules.proofs.Slots.{drop-later}
+use Rattle.lists.specs.Fault.{Fault, fault, unless}
+use Rattle.lists.specs.Names.{startOf}
+use Rattle.lists.specs.Reading.{Val, bind, allTensor}
+use Rattle.documents.specs.Binding.{Slot, leading, byPlace, later, byName, orElse, slotsFrom, slots, misplacedFrom, misplaced}
+use Rattle.documents.proofs.Items.{clash}
+use Rattle.documents.proofs.Sought.{Nth}
+use Rattle.documents.proofs.Sought.Nth.{first, after}
+use Rattle.documents.proofs.Slots.{drop-later}
 use Rattle.canonical.specs.Plan.{valueFor, valuesFor}
 use Rattle.canonical.specs.Writing.{argumentFor}
 

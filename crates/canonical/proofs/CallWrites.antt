@@ -12,12 +12,13 @@ use Rattle.syntax.specs.Tree.{Header, Call, Document}
 use Rattle.syntax.specs.Parser.{call}
 use Rattle.syntax.specs.Parser.Parse.{ok}
 use Rattle.syntax.specs.Table.{toks}
-use Rattle.rules.specs.Reading.{readAt, resultType}
-use Rattle.rules.specs.Binding.{slots, misplaced}
-use Rattle.rules.specs.DocumentRules.{find, byOperation, argumentFaults, documentFaults, boundAt, leftFaults}
-use Rattle.rules.specs.Calls.{Calls, CallAt}
-use Rattle.rules.specs.declared.calls.Places.{Places}
-use Rattle.rules.proofs.Lookups.{calls-more, calls-none}
+use Rattle.lists.specs.Reading.{readAt, resultType}
+use Rattle.lists.specs.Found.{find}
+use Rattle.documents.specs.Binding.{slots, misplaced}
+use Rattle.documents.specs.DocumentRules.{byOperation, argumentFaults, documentFaults, boundAt, leftFaults}
+use Rattle.documents.specs.Calls.{Calls, CallAt}
+use Rattle.documents.specs.declared.calls.Places.{Places}
+use Rattle.documents.proofs.Lookups.{calls-more, calls-none}
 use Rattle.canonical.specs.declared.place.Place.{Place}
 use Rattle.canonical.specs.Plan.{PlanCall, Plan, valuesFor, planCall, planCalls, spellings, planOf}
 use Rattle.canonical.specs.Pieces.{Piece}

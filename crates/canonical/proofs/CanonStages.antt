@@ -17,15 +17,16 @@ use Rattle.syntax.specs.Tree.{Header, Document}
 use Rattle.syntax.specs.Parser.{parseDocument}
 use Rattle.syntax.specs.Parser.Parse.{ok}
 use Rattle.syntax.specs.Table.{toks, Holds}
-use Rattle.rules.specs.ListRules.{listFaults}
-use Rattle.rules.specs.DocumentRules.{documentFaults}
-use Rattle.rules.specs.Lists.{Heads, NamePlaces}
-use Rattle.rules.specs.Answer.{Stage, pass, stop, andThen, guard, stageAnswer, bothStages, Checked, workAfter}
-use Rattle.rules.proofs.Guards.{guard-room, guard-list, guard-document, guard-none, isGuard, kept, cleared-after}
-use Rattle.rules.specs.Stages.{BothPassed}
-use Rattle.rules.proofs.First.{first-none}
-use Rattle.rules.proofs.Refusals.{both-codes}
-use Rattle.rules.proofs.BothStages.{list-clean, document-clean, part-heads, part-places, both-under}
+use Rattle.lists.specs.ListRules.{listFaults}
+use Rattle.lists.specs.Lists.{Heads, NamePlaces}
+use Rattle.lists.specs.Answer.{Stage, pass, stop, andThen, guard, stageAnswer, workAfter}
+use Rattle.lists.proofs.Guards.{guard-room, guard-list, guard-document, guard-none, isGuard, kept, cleared-after}
+use Rattle.lists.proofs.First.{first-none}
+use Rattle.documents.specs.DocumentRules.{documentFaults}
+use Rattle.documents.specs.Answer.{bothStages, Checked}
+use Rattle.documents.specs.Stages.{BothPassed}
+use Rattle.documents.proofs.Refusals.{both-codes}
+use Rattle.documents.proofs.BothStages.{list-clean, document-clean, part-heads, part-places, both-under}
 use Rattle.canonical.specs.Plan.{Plan, planOf}
 use Rattle.canonical.specs.Pieces.{Piece, text}
 use Rattle.canonical.specs.Layout.{documentPieces}

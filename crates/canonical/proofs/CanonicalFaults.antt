@@ -12,13 +12,13 @@ use Rattle.lexis.specs.Sizes.{maxInputs, maxOutputs, maxCalls, maxAssigned, max
 use Rattle.lexis.specs.Words.{sameBytes}
 use Rattle.lexis.specs.Lexer.{Token}
 use Rattle.syntax.specs.Tree.{Header, Call, Document}
-use Rattle.rules.specs.Fault.{Fault, faults, starts}
-use Rattle.rules.specs.Names.{those, isAmong, repeats, startOf, assigned, used, allAssigned, allUsed}
-use Rattle.rules.specs.Reading.{fits}
-use Rattle.rules.specs.Binding.{slots}
-use Rattle.rules.specs.Wiring.{strangers, again, unwiredAfter, isExternal, misfedBy, misfed, unmade}
-use Rattle.rules.specs.DocumentRules.{badVersion, documentCounts, graphRepeats, undeclared, argumentFaults, unmatched, documentFaults}
-use Rattle.rules.specs.Accepted.{AcceptedList}
+use Rattle.lists.specs.Fault.{Fault, faults, starts}
+use Rattle.lists.specs.Names.{those, isAmong, repeats, startOf, assigned, used, allAssigned, allUsed}
+use Rattle.lists.specs.Reading.{fits}
+use Rattle.lists.specs.Accepted.{AcceptedList}
+use Rattle.documents.specs.Binding.{slots}
+use Rattle.documents.specs.Wiring.{strangers, again, unwiredAfter, isExternal, misfedBy, misfed, unmade}
+use Rattle.documents.specs.DocumentRules.{badVersion, documentCounts, graphRepeats, undeclared, argumentFaults, unmatched, documentFaults}
 use Rattle.canonical.specs.Plan.{PlanCall, Plan, spellings, planOf}
 use Rattle.canonical.proofs.Shape.{CanonCall, CanonCalls, no-calls, a-call, CanonDocument}
 use Rattle.canonical.proofs.Clean.{Keeps, both-keep, no-part, a-part, row-keeps}

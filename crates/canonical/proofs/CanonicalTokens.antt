@@ -19,7 +19,7 @@ use Rattle.lexis.specs.Code as Code
 use Rattle.lexis.specs.Lexer.{Token, accepted, refused, lex}
 use Rattle.syntax.specs.Tree.{Ty, Tys, Param, Header}
 use Rattle.syntax.specs.Grammar.{Leaves, both}
-use Rattle.rules.specs.Reading.{Val, Vals}
+use Rattle.lists.specs.Reading.{Val, Vals}
 use Rattle.canonical.specs.Plan.{Plan, PlanCall}
 use Rattle.canonical.specs.Spelling.{decimal, spellNumber, holdsSingle, quoteFor, spellString, spellTruth}
 use Rattle.canonical.specs.Pieces.{Piece, text, tokensAt}

@@ -22,15 +22,17 @@ use Rattle.syntax.specs.Grammar.{literals}
 use Rattle.syntax.specs.Parser as P
 use Rattle.syntax.specs.Parser.{Parse}
 use Rattle.syntax.specs.Parser.Parse.{ok, bad}
-use Rattle.rules.specs.Fault as F
-use Rattle.rules.specs.Names as N
-use Rattle.rules.specs.Reading as R
-use Rattle.rules.specs.ListRules as L
-use Rattle.rules.specs.Binding as B
-use Rattle.rules.specs.Wiring as W
-use Rattle.rules.specs.DocumentRules as D
-use Rattle.rules.specs.Answer as A
-use Rattle.rules.specs.Answer.{Stage, pass, stop, checkAnswer}
+use Rattle.lists.specs.Fault as F
+use Rattle.lists.specs.Names as N
+use Rattle.lists.specs.Reading as R
+use Rattle.lists.specs.ListRules as L
+use Rattle.lists.specs.Found.{operationOf}
+use Rattle.lists.specs.Answer.{Stage, pass, stop, listStages}
+use Rattle.documents.specs.Binding as B
+use Rattle.documents.specs.Wiring as W
+use Rattle.documents.specs.DocumentRules as D
+use Rattle.documents.specs.Answer as A
+use Rattle.documents.specs.Answer.{checkAnswer}
 use Rattle.canonical.specs.Plan as Plan
 use Rattle.canonical.specs.Spelling as S
 use Rattle.canonical.specs.Pieces as Pieces
@@ -124,5 +126,5 @@ cases =
     ∷ []
 
 pub right : map (λ (c : Case). c .gives) cases ≡ map (λ (c : Case). c .is) cases
-unfolding flatten flatMap classOf spanLen gapFrom sameBytes words kindIn fracLen signLen isE expLen partsOf sticks valueFrom writtenOf minusOf strip reducedOf isNear isSmall inRange numberLexeme wordLexeme stringLexeme takesEqual isPair isArrow markLexeme lexeme admit lexFrom keywordSymbol symbolOf symOf P.expect P.follow P.rowF P.row P.valueStep P.arrayItems P.tupleItems P.bracketed P.value P.typeName P.dims P.tupleTypes P.baseStep P.type P.default P.param P.result P.header P.operations P.argument P.left P.call P.document R.readAt R.readAll R.readEach R.fits R.allTensor R.allTensors R.typesOf R.resultType B.leading B.byName B.slotsFrom D.operationOf Plan.valueFor Plan.valuesFor Plan.planCall Plan.planCalls Plan.planOf F.before F.first N.those N.isAmong N.repeatsAfter N.namesIn N.namesOf N.used N.allAssigned N.allUsed L.listCounts L.listRepeats L.badDefaults L.listFaults B.labels B.taken B.misplacedFrom B.misnamed B.misfits B.lacked W.again W.unwiredAfter W.misfedBy W.misfed W.unmade D.badVersion D.documentCounts D.graphRepeats D.undeclared D.argumentFaults D.unmatched D.documentFaults A.listStages A.documentStages A.bothStages A.checked A.checkAnswer S.decimalBy S.decimal S.spellExponent S.spellNumber S.holdsSingle S.quoteFor S.spellString Pieces.text Layout.pieces Layout.items Layout.moreItems Layout.leftPieces Layout.moreNamesPieces Layout.namesPieces Layout.moreArgumentsPieces Layout.argumentsPieces Layout.callPieces Layout.callsPieces Layout.documentPieces C.layoutOf C.writingStages C.textStages C.written cases tokensOf checks outcome lexes reduces fitsParsed suits bytesOf writes
+unfolding flatten flatMap classOf spanLen gapFrom sameBytes words kindIn fracLen signLen isE expLen partsOf sticks valueFrom writtenOf minusOf strip reducedOf isNear isSmall inRange numberLexeme wordLexeme stringLexeme takesEqual isPair isArrow markLexeme lexeme admit lexFrom keywordSymbol symbolOf symOf P.expect P.follow P.rowF P.row P.valueStep P.arrayItems P.tupleItems P.bracketed P.value P.typeName P.dims P.tupleTypes P.baseStep P.type P.default P.param P.result P.header P.operations P.argument P.left P.call P.document R.readAt R.readAll R.readEach R.fits R.allTensor R.allTensors R.typesOf R.resultType B.leading B.byName B.slotsFrom operationOf Plan.valueFor Plan.valuesFor Plan.planCall Plan.planCalls Plan.planOf F.before F.first N.those N.isAmong N.repeatsAfter N.namesIn N.namesOf N.used N.allAssigned N.allUsed L.listCounts L.listRepeats L.badDefaults L.listFaults B.labels B.taken B.misplacedFrom B.misnamed B.misfits B.lacked W.again W.unwiredAfter W.misfedBy W.misfed W.unmade D.badVersion D.documentCounts D.graphRepeats D.undeclared D.argumentFaults D.unmatched D.documentFaults listStages A.documentStages A.bothStages A.checked A.checkAnswer S.decimalBy S.decimal S.spellExponent S.spellNumber S.holdsSingle S.quoteFor S.spellString Pieces.text Layout.pieces Layout.items Layout.moreItems Layout.leftPieces Layout.moreNamesPieces Layout.namesPieces Layout.moreArgumentsPieces Layout.argumentsPieces Layout.callPieces Layout.callsPieces Layout.documentPieces C.layoutOf C.writingStages C.textStages C.written cases tokensOf checks outcome lexes reduces fitsParsed suits bytesOf writes
 right = refl

@@ -9,8 +9,8 @@ use Rattle.lexis.specs.Words.{sameBytes}
 use Rattle.syntax.specs.Tree.{Value, Values, Param, Header}
 use Rattle.syntax.specs.Symbol.{rightRound}
 use Rattle.syntax.specs.Grammar.{Separated, last, next, literals, Spells, a-name, a-literal, an-empty-array, an-array, a-tuple, Items, last-item, next-item, IsDefault, no-default, a-default, IsParam, a-param, IsHeader, a-header, IsList, no-header, a-header-more}
-use Rattle.rules.specs.Names.{namesIn, namesOf}
-use Rattle.rules.specs.DocumentRules.{operationOf, find}
+use Rattle.lists.specs.Names.{namesIn, namesOf}
+use Rattle.lists.specs.Found.{operationOf, find}
 use Rattle.canonical.proofs.Planned.{nothing-some}
 
 mutual

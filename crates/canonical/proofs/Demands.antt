@@ -1,7 +1,7 @@
 -- The three demands, clause by clause and in their order, for the four operations: statements, each proved in a file that is named at its
 -- `use`. What the words mean stands in specs/: answers and lent words afterwards in `Answer` of each crate, acceptance in `Accepted`
--- and the first fault in `Fault` of `rules`, the table of codes in `CodeTable`, plans and canonical texts in `Plan` and `Layout`.
--- `docs/DEMANDS.md` reads this page aloud.
+-- of `lists` and `documents`, the first fault in `Fault` of `lists`, the table of codes in `CodeTable`, plans and canonical texts in `Plan`
+-- and `Layout`. `docs/DEMANDS.md` reads this page aloud.
 use mathlib.Core.Path.{_≡_}
 use mathlib.Core.Bool.{true, false}
 use mathlib.Core.List.{List, [], _∷_, _++_}
@@ -18,15 +18,18 @@ use Rattle.syntax.specs.Tree.{Header, Call, Document}
 use Rattle.syntax.specs.Grammar.{IsList, IsDocument}
 use Rattle.syntax.specs.Fault.{FirstFault}
 use Rattle.syntax.specs.Table.{placeOf}
-use Rattle.rules.specs.Fault.{Fault, IsFirst}
-use Rattle.rules.specs.Names.{used}
-use Rattle.rules.specs.ListRules.{listFaults}
-use Rattle.rules.specs.DocumentRules.{documentFaults}
-use Rattle.rules.specs.Tables.{callTable, wireTable, assigner}
-use Rattle.rules.specs.Wired.{AssignedBy}
-use Rattle.rules.specs.Answer.{declarationsAnswer, CheckRoom, checkRoom, checkServes, checked, checkAnswer, callsAfter, wiresAfter, workAfter}
-use Rattle.rules.specs.Accepted.{AcceptedList, AcceptedDocument}
-use Rattle.rules.proofs.Theorems as Rules
+use Rattle.lists.specs.Fault.{Fault, IsFirst}
+use Rattle.lists.specs.Names.{used}
+use Rattle.lists.specs.ListRules.{listFaults}
+use Rattle.lists.specs.Answer.{declarationsAnswer, workAfter}
+use Rattle.lists.specs.Accepted.{AcceptedList}
+use Rattle.lists.proofs.Theorems as Lists
+use Rattle.documents.specs.DocumentRules.{documentFaults}
+use Rattle.documents.specs.Tables.{callTable, wireTable, assigner}
+use Rattle.documents.specs.Wired.{AssignedBy}
+use Rattle.documents.specs.Answer.{CheckRoom, checkRoom, checkServes, checked, checkAnswer, callsAfter, wiresAfter}
+use Rattle.documents.specs.Accepted.{AcceptedDocument}
+use Rattle.documents.proofs.Theorems as Documents
 use Rattle.canonical.specs.Code as Writing
 use Rattle.canonical.specs.Plan.{Plan}
 use Rattle.canonical.specs.Layout.{documentPieces, canonical}
@@ -62,7 +65,7 @@ tokens-refusal-keeps = Lexis.untouched
 
 pub check-refusal-keeps : (list doc : List ℕ) (l : CheckRoom) (calls wires : List ℕ) → (checkAnswer list doc l .code ≡ Code.accepted → ⊥)
     → (callsAfter (checked list doc l) calls ≡ calls) × (wiresAfter (checked list doc l) wires ≡ wires)
-check-refusal-keeps = Rules.check-keeps
+check-refusal-keeps = Documents.check-keeps
 
 pub canon-refusal-keeps : (list doc : List ℕ) (l : Lent) → (numbers list doc l .code ≡ Code.accepted → ⊥) → output list doc l ≡ l .out
 canon-refusal-keeps = Canonical.refusal-keeps
@@ -121,43 +124,43 @@ tokens-placed text ts e = (Lexis.placed text ts e, (Lexis.longest-match text ts 
 -- ---- declarations
 
 pub declarations-room : (list : List ℕ) (work : ℕ) → work < workWords → declarationsAnswer list work ≡ answer Code.shortRoom 0 0 0
-declarations-room = Rules.declarations-room
+declarations-room = Lists.declarations-room
 
 pub declarations-long : (list : List ℕ) (work : ℕ) → workWords ≤ work → maxText < length list → declarationsAnswer list work ≡ answer Code.longText 1 maxText 0
-declarations-long = Rules.declarations-long
+declarations-long = Lists.declarations-long
 
 -- an accepted list is answered 0, 0, 0 and the number of its operations, and code 0 is answered to no other
 pub declarations-accepts : (list : List ℕ) (work : ℕ) (hs : List Header) → workWords ≤ work → AcceptedList list hs
     → declarationsAnswer list work ≡ answer Code.accepted 0 0 (length hs)
-declarations-accepts = Rules.declarations-accepts
+declarations-accepts = Lists.declarations-accepts
 
 pub declarations-accepted : (list : List ℕ) (work : ℕ) → declarationsAnswer list work .code ≡ Code.accepted → (hs : List Header) × AcceptedList list hs
-declarations-accepted = Rules.declarations-accepted
+declarations-accepted = Lists.declarations-accepted
 
 -- otherwise the first fault: of the bytes; of the syntax, where the grammar says; of the rules
 module _ (list : List ℕ) (work : ℕ) (r : workWords ≤ work) (l : length list ≤ maxText) where
   pub declarations-bytes : (c p : ℕ) → lex list ≡ refused c p → declarationsAnswer list work ≡ answer c 1 p 0
-  declarations-bytes c p e = Answers.declarations-refuses list work _ r l (Rules.list-bytes list c p e)
+  declarations-bytes c p e = Answers.declarations-refuses list work _ r l (Lists.list-bytes list c p e)
 
   pub declarations-syntax : (c : ℕ) (ts us : List Token) → lex list ≡ accepted ts → FirstFault (λ b xs. (hs : List Header) × IsList b xs hs) maxBrackets c ts us
       → declarationsAnswer list work ≡ answer c 1 (placeOf (length list) us) 0
-  declarations-syntax c ts us e f = Answers.declarations-refuses list work _ r l (Rules.list-syntax list c ts us e f)
+  declarations-syntax c ts us e f = Answers.declarations-refuses list work _ r l (Lists.list-syntax list c ts us e f)
 
   pub declarations-rules : (ts : List Token) (hs : List Header) (x : Fault) → lex list ≡ accepted ts → IsList maxBrackets ts hs → IsFirst x (listFaults hs)
       → declarationsAnswer list work ≡ answer (x .code) 1 (x .at) (x .detail)
-  declarations-rules ts hs x e s f = Answers.declarations-refuses list work _ r l (Rules.list-rules list ts hs x e s f)
+  declarations-rules ts hs x e s f = Answers.declarations-refuses list work _ r l (Lists.list-rules list ts hs x e s f)
 
 -- ---- check
 
 pub check-room : (list doc : List ℕ) (l : CheckRoom) → checkServes l ≡ false → checkAnswer list doc l ≡ answer Code.shortRoom 0 0 0
-check-room = Rules.check-room
+check-room = Documents.check-room
 
 pub check-long : (list doc : List ℕ) (l : CheckRoom) → checkServes l ≡ true → maxText < length list → checkAnswer list doc l ≡ answer Code.longText 1 maxText 0
-check-long = Rules.check-long
+check-long = Documents.check-long
 
 pub check-long-document : (list doc : List ℕ) (l : CheckRoom) → checkServes l ≡ true → length list ≤ maxText → maxText < length doc
     → checkAnswer list doc l ≡ answer Code.longText 2 maxText 0
-check-long-document = Rules.check-long-document
+check-long-document = Documents.check-long-document
 
 -- a list that declarations refuses, check refuses with the same four numbers
 pub check-list : (list doc : List ℕ) (l : CheckRoom) (work : ℕ) → checkServes l ≡ true → workWords ≤ work → length list ≤ maxText → length doc ≤ maxText
@@ -167,37 +170,37 @@ check-list = Answers.check-list
 module _ (list doc : List ℕ) (l : CheckRoom) (hs : List Header) (r : checkServes l ≡ true) (a : AcceptedList list hs) where
   -- an accepted document is answered 0, 0, 0 and the number of its calls
   pub check-accepts : (d : Document) → AcceptedDocument hs doc d → checkAnswer list doc l ≡ answer Code.accepted 0 0 (length (d .calls))
-  check-accepts d b = Rules.check-accepts list doc l hs d r a b
+  check-accepts d b = Documents.check-accepts list doc l hs d r a b
 
   -- its calls and wires are the first words of the tables, and words beyond them keep their contents
   pub check-writes : (d : Document) → AcceptedDocument hs doc d → (calls wires : List ℕ)
       → (callsAfter (checked list doc l) calls ≡ sets calls 0 (callTable hs d)) × (wiresAfter (checked list doc l) wires ≡ sets wires 0 (wireTable d))
-  check-writes d b calls wires = Rules.check-writes list doc l hs d r a b calls wires
+  check-writes d b calls wires = Documents.check-writes list doc l hs d r a b calls wires
 
   -- otherwise the first fault of the document: of the bytes; of the syntax; of the rules
   pub check-bytes : (c p : ℕ) → length doc ≤ maxText → lex doc ≡ refused c p → checkAnswer list doc l ≡ answer c 2 p 0
-  check-bytes c p m e = Rules.check-refuses list doc l _ r (a .short) m (Rules.document-bytes list doc hs a c p e)
+  check-bytes c p m e = Documents.check-refuses list doc l _ r (a .short) m (Documents.document-bytes list doc hs a c p e)
 
   pub check-syntax : (c : ℕ) (ts us : List Token) → length doc ≤ maxText → lex doc ≡ accepted ts
       → FirstFault (λ b xs. (d : Document) × IsDocument b xs d) maxBrackets c ts us
       → checkAnswer list doc l ≡ answer c 2 (placeOf (length doc) us) 0
-  check-syntax c ts us m e f = Rules.check-refuses list doc l _ r (a .short) m (Rules.document-syntax list doc hs a c ts us e f)
+  check-syntax c ts us m e f = Documents.check-refuses list doc l _ r (a .short) m (Documents.document-syntax list doc hs a c ts us e f)
 
   pub check-rules : (ts : List Token) (d : Document) (x : Fault) → length doc ≤ maxText → lex doc ≡ accepted ts → IsDocument maxBrackets ts d
       → IsFirst x (documentFaults hs d)
       → checkAnswer list doc l ≡ answer (x .code) 2 (x .at) (x .detail)
-  check-rules ts d x m e s f = Rules.check-refuses list doc l _ r (a .short) m (Rules.document-rules list doc hs a ts d x e s f)
+  check-rules ts d x m e s f = Documents.check-refuses list doc l _ r (a .short) m (Documents.document-rules list doc hs a ts d x e s f)
 
 -- code 0 is answered to no other
 pub check-accepted : (list doc : List ℕ) (l : CheckRoom) → checkAnswer list doc l .code ≡ Code.accepted
     → (hs : List Header) × ((d : Document) × (AcceptedList list hs × AcceptedDocument hs doc d))
-check-accepted = Rules.check-accepted
+check-accepted = Documents.check-accepted
 
 -- the call that a wire names comes before the call that uses the identifier, and assigns it
 pub wire-below : (hs : List Header) (doc : List ℕ) (d : Document) → AcceptedDocument hs doc d
     → (before : List Call) (c : Call) (after : List Call) (xs : List Token) (t : Token) (ys : List Token)
     → d .calls ≡ before ++ (c ∷ after) → used c ≡ xs ++ (t ∷ ys) → AssignedBy (d .calls) (assigner (d .calls) t) (length before) t
-wire-below = Rules.wire-below
+wire-below = Documents.wire-below
 
 -- ---- canon
 

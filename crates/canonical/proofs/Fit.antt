@@ -20,10 +20,10 @@ use Rattle.syntax.specs.Tree.{Ty, Tys, Param, Header}
 use Rattle.syntax.specs.Tree.Ty.{tensor, extent, scalar, logical, string, arrayOf, tupleOf}
 use Rattle.syntax.specs.Tree.Tys.{no-type, a-type}
 use Rattle.syntax.specs.Grammar.{Leaves, names, both, takesNames, takesLiterals}
-use Rattle.rules.specs.Names.{repeats}
-use Rattle.rules.specs.ListRules.{paramNames}
-use Rattle.rules.specs.DocumentRules.{find}
-use Rattle.rules.specs.Reading.{Val, Vals, vName, vNumber, vExtent, vString, vLogical, vArray, vTuple, no-val, a-val, resultType}
+use Rattle.lists.specs.Names.{repeats}
+use Rattle.lists.specs.ListRules.{paramNames}
+use Rattle.lists.specs.Found.{find}
+use Rattle.lists.specs.Reading.{Val, Vals, vName, vNumber, vExtent, vString, vLogical, vArray, vTuple, no-val, a-val, resultType}
 use Rattle.canonical.specs.Plan.{Plan, PlanCall}
 use Rattle.canonical.specs.Spelling.{quoteFor}
 use Rattle.canonical.specs.Pieces.{Piece}

@@ -5,7 +5,7 @@ use mathlib.Core.Option.{some}
 use Prim.Native.Nat.{ℕ}
 use Rattle.lexis.specs.Lexer.{Token}
 use Rattle.syntax.specs.Tree.{Header}
-use Rattle.rules.specs.DocumentRules.{operationOf, find}
+use Rattle.lists.specs.Found.{operationOf, find}
 use Rattle.canonical.specs.Layout.{paramsIn, paramsOf}
 
 pub find-same : (hs : List Header) (s t : Token) → s .bytes ≡ t .bytes → find hs s ≡ find hs t

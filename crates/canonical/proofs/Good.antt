@@ -22,7 +22,7 @@ use Rattle.lexis.specs.Lexer.{Token, Lexed, accepted, refused, prepend, admit, 
 use Rattle.lexis.specs.declared.token.Lexeme.{Lexeme}
 use Rattle.lexis.specs.declared.token.Lexeme.the-variants as L
 use Rattle.syntax.specs.Symbol.{symOf, symbolOf, keywordSymbol, aName}
-use Rattle.rules.specs.Reading.{isNumber, contentOf}
+use Rattle.lists.specs.Reading.{isNumber, contentOf}
 use Rattle.canonical.specs.Spelling.{holdsSingle, quoteFor}
 use Rattle.canonical.proofs.Runs.{span-all}
 use Rattle.canonical.proofs.Fit.{All, none, more, IsWord, IsName, IsText}

@@ -22,13 +22,17 @@ use Rattle.syntax.specs.Tree.{Header, Document}
 use Rattle.syntax.specs.Grammar.{IsList, IsDocument}
 use Rattle.syntax.specs.Fault.{FirstFault}
 use Rattle.syntax.specs.Table.{placeOf}
-use Rattle.rules.specs.Accepted.{StartsToken}
-use Rattle.rules.specs.Answer.{Stage, pass, stop, andThen, guard, guarded, stageAnswer, listStages, bothStages, declared, declarationsAnswer, Checked, CheckRoom, checkServes, checked, callCount, checkAnswer}
-use Rattle.rules.proofs.Acceptance.{list-passed}
-use Rattle.rules.proofs.Lines.{ListCode, DocumentCode}
-use Rattle.rules.proofs.Lines as Lines
-use Rattle.rules.proofs.Refusals.{Refusal, of-bytes, of-syntax, of-rules, list-refusal, both-refusal}
-use Rattle.rules.proofs.Theorems.{both-passed}
+use Rattle.lists.specs.Accepted.{StartsToken}
+use Rattle.lists.specs.Answer.{Stage, pass, stop, andThen, guard, guarded, stageAnswer, listStages, declared, declarationsAnswer}
+use Rattle.lists.proofs.Acceptance.{list-passed}
+use Rattle.lists.proofs.Lines.{ListCode}
+use Rattle.lists.proofs.Refusals.{Refusal, of-bytes, of-syntax, of-rules, list-refusal}
+use Rattle.lists.proofs.Lines as Lists
+use Rattle.documents.specs.Answer.{bothStages, Checked, CheckRoom, checkServes, checked, callCount, checkAnswer}
+use Rattle.documents.proofs.Lines.{DocumentCode}
+use Rattle.documents.proofs.Lines as Documents
+use Rattle.documents.proofs.Refusals.{both-refusal}
+use Rattle.documents.proofs.Theorems.{both-passed}
 use Rattle.canonical.specs.Plan.{Plan}
 use Rattle.canonical.specs.Pieces.{Piece, text}
 use Rattle.canonical.specs.Layout.{documentPieces, canonical}
@@ -97,24 +101,24 @@ module _ {texts : List (List ℕ)} (Count Length : ℕ → Type 0) where
       go (inr q) = rw q (T.bracket t (begun (o q)))
 
   list-line : {c k p : ℕ} {text : List ℕ} → TextOf texts 1 text → ListCode c k → StartsToken text p → InTable texts Count Length (answer c 1 p k)
-  list-line t Lines.list-over-size s = T.over-size t s
-  list-line t Lines.list-repeated-name s = T.repeated-name t s
-  list-line t Lines.bad-default s = T.bad-default t s
+  list-line t Lists.list-over-size s = T.over-size t s
+  list-line t Lists.list-repeated-name s = T.repeated-name t s
+  list-line t Lists.bad-default s = T.bad-default t s
 
   document-line : {c k p : ℕ} {text : List ℕ} → TextOf texts 2 text → DocumentCode c k → StartsToken text p → InTable texts Count Length (answer c 2 p k)
-  document-line t Lines.wrong-version s = T.wrong-version t s
-  document-line t Lines.over-size s = T.over-size t s
-  document-line t Lines.repeated-name s = T.repeated-name t s
-  document-line t Lines.is-undeclared s = T.undeclared t s
-  document-line t Lines.is-misplaced s = T.misplaced t s
-  document-line t Lines.is-misnamed s = T.misnamed t s
-  document-line t Lines.is-misfit s = T.misfit t s
-  document-line t (Lines.is-unbound l) s = T.unbound t s l
-  document-line t Lines.is-unmatched s = T.unmatched t s
-  document-line t Lines.assigned-again s = T.assigned-again t s
-  document-line t Lines.unassigned-use s = T.unassigned-use t s
-  document-line t Lines.is-misfed s = T.misfed t s
-  document-line t Lines.unassigned-output s = T.unassigned-output t s
+  document-line t Documents.wrong-version s = T.wrong-version t s
+  document-line t Documents.over-size s = T.over-size t s
+  document-line t Documents.repeated-name s = T.repeated-name t s
+  document-line t Documents.is-undeclared s = T.undeclared t s
+  document-line t Documents.is-misplaced s = T.misplaced t s
+  document-line t Documents.is-misnamed s = T.misnamed t s
+  document-line t Documents.is-misfit s = T.misfit t s
+  document-line t (Documents.is-unbound l) s = T.unbound t s l
+  document-line t Documents.is-unmatched s = T.unmatched t s
+  document-line t Documents.assigned-again s = T.assigned-again t s
+  document-line t Documents.unassigned-use s = T.unassigned-use t s
+  document-line t Documents.is-misfed s = T.misfed t s
+  document-line t Documents.unassigned-output s = T.unassigned-output t s
 
   list-refused : {list : List ℕ} {r : Answer} → TextOf texts 1 list → Refusal IsList ListCode 1 list r → InTable texts Count Length r
   list-refused t (of-bytes e) = bytes-line t e

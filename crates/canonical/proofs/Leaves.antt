@@ -16,7 +16,7 @@ use Rattle.syntax.specs.Symbol.{extentWord}
 use Rattle.syntax.specs.Tree.{Ty}
 use Rattle.syntax.specs.Grammar.{IsTypeName}
 use Rattle.syntax.specs.Grammar.IsTypeName.{is-tensor, is-extent, is-scalar, is-logical, is-string}
-use Rattle.rules.specs.Reading.{Val, vName, vExtent, vString, where-true, nameAt, literalAt, isNumber, contentOf, numberOf, truthOf}
+use Rattle.lists.specs.Reading.{Val, vName, vExtent, vString, where-true, nameAt, literalAt, isNumber, contentOf, numberOf, truthOf}
 use Rattle.canonical.specs.declared.place.Place.{Place}
 use Rattle.canonical.specs.Spelling.{decimal, spellNumber, spellString, spellTruth}
 use Rattle.canonical.specs.Layout.{pieces}

@@ -12,9 +12,9 @@ use Rattle.syntax.specs.Parser.Parse.{ok}
 use Rattle.syntax.specs.Table.{tokenAt, toks}
 use Rattle.syntax.specs.Inner.{lookahead}
 use Rattle.syntax.proofs.Shrinks.{expect-shrinks}
-use Rattle.rules.proofs.RowParses.{expect-ok, Rowed, row-ok}
-use Rattle.rules.proofs.RowParses.Rowed.{last, next}
-use Rattle.rules.proofs.Parts.{First, first-of}
+use Rattle.lists.proofs.Parts.{First, first-of}
+use Rattle.documents.proofs.RowParses.{expect-ok, Rowed, row-ok}
+use Rattle.documents.proofs.RowParses.Rowed.{last, next}
 use Rattle.canonical.specs.declared.place.Place.{Place}
 use Rattle.canonical.specs.Pieces.{Piece}
 use Rattle.canonical.specs.Plan.{spellings}

@@ -9,13 +9,13 @@ use Prim.Native.Nat.{ℕ, suc}
 use Rattle.lexis.specs.Lexer.{Token}
 use Rattle.lexis.specs.Words.{sameBytes}
 use Rattle.syntax.specs.Tree.{Value, Ty, Param, Arg}
-use Rattle.rules.specs.Names.{those, isAmong, repeatsAfter, repeats}
-use Rattle.rules.specs.Reading.{Val, bind, readAt, isSome, fits}
-use Rattle.rules.specs.ListRules.{paramNames}
-use Rattle.rules.specs.Binding.{isMissing, Slot, leading, labels, byName, orElse, slotsFrom, slots, later, taken, misplacedFrom, misnamed, misfit, misfits, lacked}
-use Rattle.rules.specs.Wiring.{strangers}
-use Rattle.rules.proofs.Lookups.{among-append}
-use Rattle.rules.proofs.Sought.{same-self, same-sym}
+use Rattle.lists.specs.Names.{those, isAmong, repeatsAfter, repeats}
+use Rattle.lists.specs.Reading.{Val, bind, readAt, isSome, fits}
+use Rattle.lists.specs.ListRules.{paramNames}
+use Rattle.documents.specs.Binding.{isMissing, Slot, leading, labels, byName, orElse, slotsFrom, slots, later, taken, misplacedFrom, misnamed, misfit, misfits, lacked}
+use Rattle.documents.specs.Wiring.{strangers}
+use Rattle.documents.proofs.Lookups.{among-append}
+use Rattle.documents.proofs.Sought.{same-self, same-sym}
 use Rattle.canonical.specs.Plan.{valueFor, valuesFor, spellings}
 use Rattle.canonical.proofs.Shape.{Named, no-arg, an-arg}
 use Rattle.canonical.proofs.Planned.{nothing-some, both}

@@ -39,10 +39,10 @@ use Rattle.syntax.proofs.Table.{toks-none, toks-more, toks-length}
 use Rattle.syntax.proofs.Row.{left-ok}
 use Rattle.syntax.proofs.Shrinks.{value-shrinks}
 use Rattle.syntax.proofs.Complete.{value-complete}
-use Rattle.rules.specs.Reading.{Val, Vals, vName, vArray, vTuple, no-val, a-val, nameAt, bind, readAt, readAll, readEach}
-use Rattle.rules.proofs.Items.{clash}
-use Rattle.rules.proofs.Parts.{toks-split, first-of}
-use Rattle.rules.proofs.Phrases.{left-is}
+use Rattle.lists.specs.Reading.{Val, Vals, vName, vArray, vTuple, no-val, a-val, nameAt, bind, readAt, readAll, readEach}
+use Rattle.lists.proofs.Parts.{toks-split, first-of}
+use Rattle.lists.proofs.Phrases.{left-is}
+use Rattle.documents.proofs.Items.{clash}
 use Rattle.canonical.specs.declared.place.Place.{Place}
 use Rattle.canonical.specs.Pieces.{Piece}
 use Rattle.canonical.specs.Layout.{mark, namePiece, pieces, items, moreItems, leftPieces}

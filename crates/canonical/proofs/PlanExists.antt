@@ -9,20 +9,22 @@ use Prim.Native.Nat.{ℕ, suc}
 use Rattle.lexis.specs.Lexer.{Token}
 use Rattle.lexis.specs.Words.{sameBytes}
 use Rattle.syntax.specs.Tree.{Value, Ty, Param, Header, Arg, Call, Document}
-use Rattle.rules.specs.Fault.{Fault, fault, unless, first}
-use Rattle.rules.specs.Names.{startOf}
-use Rattle.rules.specs.Reading.{Val, bind, isSome, fits, readAt, resultType}
-use Rattle.rules.specs.ListRules.{badDefault, listFaults}
-use Rattle.rules.specs.Lists.{defaultFaults}
-use Rattle.rules.specs.Lists as L
-use Rattle.rules.specs.Binding.{Slot, slotsFrom, later, byPlace, byName, orElse, misfit, misfits, isMissing, lacked}
-use Rattle.rules.specs.DocumentRules.{operationOf, find, documentFaults, boundAt, leftFaults}
-use Rattle.rules.specs.Walks.{ownFaults}
-use Rattle.rules.specs.Operations.{operationFaults}
-use Rattle.rules.proofs.Items.{clash}
-use Rattle.rules.proofs.First.{first-none}
-use Rattle.rules.proofs.DocumentFaults.{neither, document-parts, own-clean}
-use Rattle.rules.proofs.CallUsage.{known, unknown}
+use Rattle.lists.specs.Fault.{Fault, fault, unless, first}
+use Rattle.lists.specs.Names.{startOf}
+use Rattle.lists.specs.Reading.{Val, bind, isSome, fits, readAt, resultType}
+use Rattle.lists.specs.ListRules.{badDefault, listFaults}
+use Rattle.lists.specs.Lists.{defaultFaults}
+use Rattle.lists.specs.Lists as L
+use Rattle.lists.specs.Found.{operationOf, find}
+use Rattle.lists.proofs.First.{first-none}
+use Rattle.lists.proofs.Faultless.{neither, own-clean}
+use Rattle.documents.specs.Binding.{Slot, slotsFrom, later, byPlace, byName, orElse, misfit, misfits, isMissing, lacked}
+use Rattle.documents.specs.DocumentRules.{documentFaults, boundAt, leftFaults}
+use Rattle.documents.specs.Walks.{ownFaults}
+use Rattle.documents.specs.Operations.{operationFaults}
+use Rattle.documents.proofs.Items.{clash}
+use Rattle.documents.proofs.DocumentFaults.{document-parts}
+use Rattle.documents.proofs.CallUsage.{known, unknown}
 use Rattle.canonical.specs.Plan.{Plan, PlanCall, valueFor, valuesFor, planCall, planCalls, planOf, spellings}
 use Rattle.canonical.proofs.Good.{Each}
 

@@ -17,15 +17,16 @@ use Rattle.syntax.specs.Grammar.{names, literals, both, Separated, last, next, 
 use Rattle.syntax.specs.Grammar.{IsDefault, no-default, a-default, IsParam, IsResult, a-result, IsHeader, a-header, IsList, no-header, a-header-more}
 use Rattle.syntax.specs.Grammar.{the-name, IsArg, a-positional, a-named, IsLeft, one-pattern, a-bare-tuple, IsEnd, no-semicolon, a-semicolon, IsCall, IsBody, last-call, next-call, IsDocument, a-document}
 use Rattle.syntax.specs.Grammar as G
-use Rattle.rules.specs.Fault.{first}
-use Rattle.rules.specs.Names.{valueOf}
-use Rattle.rules.specs.Reading.{Val, bind, readAt, resultType, allTensor}
-use Rattle.rules.specs.ListRules.{listFaults}
-use Rattle.rules.specs.Binding.{leading, byPlace, later, byName, orElse, slots, slotsFrom}
-use Rattle.rules.specs.DocumentRules.{find}
-use Rattle.rules.specs.Accepted.{AcceptedList, AcceptedDocument}
-use Rattle.rules.proofs.Items.{clash}
-use Rattle.rules.proofs.DocumentFaults.{apart-params}
+use Rattle.lists.specs.Fault.{first}
+use Rattle.lists.specs.Names.{valueOf}
+use Rattle.lists.specs.Reading.{Val, bind, readAt, resultType, allTensor}
+use Rattle.lists.specs.ListRules.{listFaults}
+use Rattle.lists.specs.Found.{find}
+use Rattle.lists.specs.Accepted.{AcceptedList}
+use Rattle.lists.proofs.Faultless.{apart-params}
+use Rattle.documents.specs.Binding.{leading, byPlace, later, byName, orElse, slots, slotsFrom}
+use Rattle.documents.specs.Accepted.{AcceptedDocument}
+use Rattle.documents.proofs.Items.{clash}
 use Rattle.canonical.specs.Plan.{Plan, PlanCall, spellings, valueFor, valuesFor, planCall, planCalls, planOf}
 use Rattle.canonical.specs.Layout.{leftPieces}
 use Rattle.canonical.proofs.Fit.{IsName, Fits, fit-name, fit-number, fit-scalar, fit-extent, fit-string, fit-logical, fit-truth, fit-array, fit-tuple, LeftFits, alone, several, FitsParams, no-param, a-param, CallFits, CallsFit, one-call, more-calls, NamesFit, one-name, more-names, PlanFits}

@@ -6,9 +6,9 @@ use mathlib.Core.Option.{none as nothing}
 use Prim.Native.Nat.{ℕ}
 use native.Mathlib.Omega.{arith}
 use Rattle.syntax.specs.Tree.{Header, Call, Document}
-use Rattle.rules.specs.Reading.{Val, bind, readAt, resultType}
-use Rattle.rules.specs.Binding.{slots}
-use Rattle.rules.specs.DocumentRules.{find}
+use Rattle.lists.specs.Reading.{Val, bind, readAt, resultType}
+use Rattle.lists.specs.Found.{find}
+use Rattle.documents.specs.Binding.{slots}
 use Rattle.canonical.specs.Plan.{PlanCall, Plan, valuesFor, planCall, planCalls, spellings, planOf}
 
 -- ---- options

@@ -23,11 +23,11 @@ use Rattle.syntax.specs.Table.{startAt, endAt, tokenAt, Holds}
 use Rattle.syntax.specs.Inner.{lookahead}
 use Rattle.syntax.proofs.Row.{cond-has}
 use Rattle.syntax.proofs.Right.{choice}
-use Rattle.rules.specs.Reading.{Val, Vals, vArray, vTuple, a-val, bind, readAt, readAll, readEach, fits}
-use Rattle.rules.specs.Fitting.{stacked, IsBase, Columns}
-use Rattle.rules.specs.Fitting.IsBase.{a-word, a-tuple-base}
-use Rattle.rules.proofs.Fits.{tuple-no}
-use Rattle.rules.proofs.Phrases.{tuple-columns}
+use Rattle.lists.specs.Reading.{Val, Vals, vArray, vTuple, a-val, bind, readAt, readAll, readEach, fits}
+use Rattle.lists.specs.Fitting.{stacked, IsBase, Columns}
+use Rattle.lists.specs.Fitting.IsBase.{a-word, a-tuple-base}
+use Rattle.lists.proofs.Fits.{tuple-no}
+use Rattle.lists.proofs.Phrases.{tuple-columns}
 use Rattle.canonical.specs.Writing.{leafAt}
 use Rattle.canonical.proofs.Good.{keyword-not}
 

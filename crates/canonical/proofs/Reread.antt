@@ -20,7 +20,7 @@ use Rattle.syntax.specs.Tree.Value.{name, literal, array, tuple}
 use Rattle.syntax.specs.Tree.Values.{none, more}
 use Rattle.syntax.specs.Tree.Ty.{arrayOf}
 use Rattle.syntax.specs.Grammar.{Leaves, takesLiterals, Spells, a-name, a-literal, an-empty-array, an-array, a-tuple, Items, last-item, next-item}
-use Rattle.rules.specs.Reading.{Val, Vals, vArray, a-val, contentOf, literalAt, readAt, readAll, readEach}
+use Rattle.lists.specs.Reading.{Val, Vals, vArray, a-val, contentOf, literalAt, readAt, readAll, readEach}
 use Rattle.canonical.specs.Spelling.{decimal, spellNumber, quoteFor, quoted, spellString, spellTruth}
 use Rattle.canonical.specs.Pieces.{Piece, tokensAt}
 use Rattle.canonical.specs.Layout.{piece, namePiece, mark, pieces, items, moreItems}

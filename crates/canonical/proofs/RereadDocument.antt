@@ -18,7 +18,7 @@ use Rattle.syntax.specs.Tree.Values.{more}
 use Rattle.syntax.specs.Grammar.{Separated, last, next, names, both, Spells, a-name, a-literal, an-empty-array, an-array, a-tuple, Items}
 use Rattle.syntax.specs.Grammar.{IsName, the-name, IsArg, a-named, IsLeft, one-pattern, a-bare-tuple}
 use Rattle.syntax.specs.Grammar.{a-semicolon, IsCall, a-call, IsBody, last-call, next-call, IsDocument, a-document}
-use Rattle.rules.specs.Reading.{Val, a-val, readAt, readEach}
+use Rattle.lists.specs.Reading.{Val, a-val, readAt, readEach}
 use Rattle.canonical.specs.Plan.{PlanCall, Plan, spellings}
 use Rattle.canonical.specs.Pieces.{Piece, tokensAt}
 use Rattle.canonical.specs.Layout as Layout

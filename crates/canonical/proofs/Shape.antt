@@ -7,10 +7,10 @@ use Rattle.lexis.specs.Ascii.{ascii}
 use Rattle.lexis.specs.Lexer.{Token}
 use Rattle.syntax.specs.Tree.{Value, Param, Header, Arg, Call, Document}
 use Rattle.syntax.specs.Tree.Arg.{named}
-use Rattle.rules.specs.Names.{repeats}
-use Rattle.rules.specs.ListRules.{paramNames}
-use Rattle.rules.specs.DocumentRules.{find}
-use Rattle.rules.specs.Reading.{Val, readAt, resultType}
+use Rattle.lists.specs.Names.{repeats}
+use Rattle.lists.specs.ListRules.{paramNames}
+use Rattle.lists.specs.Found.{find}
+use Rattle.lists.specs.Reading.{Val, readAt, resultType}
 use Rattle.canonical.specs.Plan.{Plan, PlanCall, spellings}
 
 pub data Named : List Param → List Val → List Arg → Type 0 where

@@ -12,8 +12,9 @@ use lib.Seq.{sets, sets-eq, take-append-seam}
 use Rattle.lexis.specs.Sizes.{maxText, maxTokens}
 use Rattle.lexis.specs.Answer.{answer}
 use Rattle.lexis.specs.declared.Answer.{Answer}
-use Rattle.rules.specs.Answer.{Stage, pass, stop, andThen, guard, bothStages, stageAnswer}
-use Rattle.rules.proofs.Refusals.{both-codes}
+use Rattle.lists.specs.Answer.{Stage, pass, stop, andThen, guard, stageAnswer}
+use Rattle.documents.specs.Answer.{bothStages}
+use Rattle.documents.proofs.Refusals.{both-codes}
 use Rattle.canonical.specs.Pieces.{Piece, text}
 use Rattle.canonical.specs.Answer.{layoutOf, writingStages, textStages, CanonRoom, canonRoom, canonServes, written, canonAnswer, outputAfter}
 use Rattle.canonical.specs.Program.{printed, shown}

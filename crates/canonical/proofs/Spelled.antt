@@ -19,8 +19,8 @@ use Rattle.lexis.specs.Ascii.{byte}
 use Rattle.lexis.specs.Sizes.{maxExtent, maxExponent, maxWritten, mantissaEnd}
 use Rattle.lexis.specs.Number.{valueFrom, partsOf, writtenOf, reducedOf, isNear, isSmall, inRange, reductionOf, reduction}
 use Rattle.lexis.specs.declared.number.Reduction.the-variants.{Number, OutOfRange}
-use Rattle.rules.specs.Reading.{contentOf}
-use Rattle.rules.proofs.Extents.{too-large}
+use Rattle.lists.specs.Reading.{contentOf}
+use Rattle.lists.proofs.Extents.{too-large}
 use Rattle.canonical.specs.Spelling.{decimalBy, decimal, spellExponent, holdsSingle, quoteFor}
 
 -- ---- digits

@@ -8,11 +8,11 @@ use native.Mathlib.Omega.{arith}
 use lib.ListN.{length, take, drop, drop-of-length-le, length-map}
 use Rattle.lexis.specs.Lexer.{Token}
 use Rattle.lexis.specs.Words.{sameBytes}
-use Rattle.rules.specs.Fault.{faults, starts}
-use Rattle.rules.specs.Names.{those, isAmong, repeatsAfter}
-use Rattle.rules.specs.ListRules.{over}
-use Rattle.rules.proofs.DocumentFaults.{no-faults, no-starts}
-use Rattle.rules.proofs.DocumentFaults.{none-beyond}
+use Rattle.lists.specs.Fault.{faults, starts}
+use Rattle.lists.specs.Names.{those, isAmong, repeatsAfter}
+use Rattle.lists.specs.ListRules.{over}
+use Rattle.lists.proofs.Faultless.{no-faults, no-starts}
+use Rattle.lists.proofs.Faultless.{none-beyond}
 use Rattle.canonical.specs.Plan.{spellings}
 use Rattle.canonical.proofs.Clean.{Keeps}
 

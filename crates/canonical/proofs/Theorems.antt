@@ -17,9 +17,11 @@ use Rattle.lexis.specs.Answer.{answer}
 use Rattle.lexis.specs.declared.Answer.{Answer}
 use Rattle.syntax.specs.Tree.{Header, Document}
 use Rattle.syntax.proofs.Theorems.{one-document}
-use Rattle.rules.specs.Answer.{Stage, pass, stop, andThen, guard, guarded, bothStages, stageAnswer, Checked, CheckRoom, checkServes, checked, callCount, checkAnswer, tableAfter}
-use Rattle.rules.specs.Accepted.{AcceptedList, AcceptedDocument}
-use Rattle.rules.proofs.Theorems.{both-pass, both-passed, guarded-good, guarded-passed, guarded-codes, answer-passed}
+use Rattle.lists.specs.Answer.{Stage, pass, stop, andThen, guard, guarded, stageAnswer, tableAfter}
+use Rattle.lists.specs.Accepted.{AcceptedList}
+use Rattle.documents.specs.Answer.{bothStages, Checked, CheckRoom, checkServes, checked, callCount, checkAnswer}
+use Rattle.documents.specs.Accepted.{AcceptedDocument}
+use Rattle.documents.proofs.Theorems.{both-pass, both-passed, guarded-good, guarded-passed, guarded-codes, answer-passed}
 use Rattle.canonical.specs.Code as Writing
 use Rattle.canonical.specs.Plan.{Plan, planOf}
 use Rattle.canonical.specs.Pieces.{Piece, text}

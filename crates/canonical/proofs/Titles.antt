@@ -14,7 +14,7 @@ use Rattle.syntax.specs.Table.{tokenAt, toks}
 use Rattle.syntax.proofs.Shrinks.{expect-shrinks}
 use Rattle.syntax.proofs.Complete.{name-complete, separated-complete}
 use Rattle.syntax.proofs.Theorems.{document-parsed}
-use Rattle.rules.proofs.Parts.{first-of}
+use Rattle.lists.proofs.Parts.{first-of}
 
 module _ (text table : List ℕ) (n : ℕ) where
   pub record Title (d : Document) : Type 0 where

@@ -10,14 +10,14 @@ use native.Mathlib.Omega.{arith}
 use Rattle.lexis.specs.Lexer.{Token}
 use Rattle.syntax.specs.Tree.{Value, Param, Arg}
 use Rattle.syntax.specs.Tree.Arg.{positional, named}
-use Rattle.rules.specs.Names.{namesIn, valueOf, repeats}
-use Rattle.rules.specs.Reading.{Val, readAt, allTensor}
-use Rattle.rules.specs.ListRules.{paramNames}
-use Rattle.rules.specs.Arguments.{Indexed, seek}
-use Rattle.rules.specs.Binding.{Slot, leading, byPlace, later, byName, orElse, slotsFrom, slots}
-use Rattle.rules.proofs.Sought.{None, Only, ofName, seek-none, seek-only}
-use Rattle.rules.proofs.Sought.None.{nil, cons}
-use Rattle.rules.proofs.Sought.Only.{here, there}
+use Rattle.lists.specs.Names.{namesIn, valueOf, repeats}
+use Rattle.lists.specs.Reading.{Val, readAt, allTensor}
+use Rattle.lists.specs.ListRules.{paramNames}
+use Rattle.documents.specs.Arguments.{Indexed, seek}
+use Rattle.documents.specs.Binding.{Slot, leading, byPlace, later, byName, orElse, slotsFrom, slots}
+use Rattle.documents.proofs.Sought.{None, Only, ofName, seek-none, seek-only}
+use Rattle.documents.proofs.Sought.None.{nil, cons}
+use Rattle.documents.proofs.Sought.Only.{here, there}
 use Rattle.canonical.specs.Plan.{valueFor, valuesFor, spellings}
 use Rattle.canonical.proofs.Shape.{Named, no-arg, an-arg}
 use Rattle.canonical.proofs.Planned.{bound, both}

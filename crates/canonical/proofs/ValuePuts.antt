@@ -22,15 +22,15 @@ use Rattle.syntax.specs.Table.{tokenAt, toks, Holds}
 use Rattle.syntax.specs.Inner.{theEnd, lookahead}
 use Rattle.syntax.proofs.Table.{toks-none, toks-more, toks-rest}
 use Rattle.syntax.proofs.Symbols.{look-none}
-use Rattle.rules.specs.Reading.{Val, Vals, vArray, vTuple, no-val, a-val, readAt, readAll, readEach}
-use Rattle.rules.specs.Fitting.{stacked, IsBase, NoPair, Shaped, Columns, InArray}
-use Rattle.rules.specs.Fitting.Columns.{last-column, next-column}
-use Rattle.rules.specs.Fitting.InArray.{no-items, some-items}
-use Rattle.rules.proofs.Phrases.{value-is, type-is, type-ends}
-use Rattle.rules.proofs.TypeTokens.{base-none}
-use Rattle.rules.proofs.Answers.{Seen, seen, look, literal-look, behind, round-no-pair, comma-no-pair}
-use Rattle.rules.proofs.Answers.{array-flat as flat-no-fit}
-use Rattle.rules.proofs.Answers.Seen.{a-name-seen, a-literal-seen, an-array-seen, a-tuple-seen}
+use Rattle.lists.specs.Reading.{Val, Vals, vArray, vTuple, no-val, a-val, readAt, readAll, readEach}
+use Rattle.lists.specs.Fitting.{stacked, IsBase, NoPair, Shaped, Columns, InArray}
+use Rattle.lists.specs.Fitting.Columns.{last-column, next-column}
+use Rattle.lists.specs.Fitting.InArray.{no-items, some-items}
+use Rattle.lists.proofs.Phrases.{value-is, type-is, type-ends}
+use Rattle.lists.proofs.TypeTokens.{base-none}
+use Rattle.lists.proofs.Answers.{Seen, seen, look, literal-look, behind, round-no-pair, comma-no-pair}
+use Rattle.lists.proofs.Answers.{array-flat as flat-no-fit}
+use Rattle.lists.proofs.Answers.Seen.{a-name-seen, a-literal-seen, an-array-seen, a-tuple-seen}
 use Rattle.canonical.specs.declared.place.Place.{Place}
 use Rattle.canonical.specs.declared.value.Put.{Put}
 use Rattle.canonical.specs.Layout.{mark, pieces, items, moreItems}

@@ -10,7 +10,8 @@ use Rattle.lexis.specs.Sizes.{maxText, maxTokens, workWords}
 use Rattle.lexis.specs.Answer.{answer}
 use Rattle.lexis.specs.declared.Answer.{Answer}
 use Rattle.syntax.specs.Tree.{Header, Document}
-use Rattle.rules.specs.Answer.{Stage, pass, andThen, guard, bothStages, guarded, stageAnswer, tableAfter}
+use Rattle.lists.specs.Answer.{Stage, pass, andThen, guard, guarded, stageAnswer, tableAfter}
+use Rattle.documents.specs.Answer.{bothStages}
 use Rattle.canonical.specs.Code as Code
 use Rattle.canonical.specs.Plan.{Plan, planOf}
 use Rattle.canonical.specs.Pieces.{Piece, text}

@@ -12,9 +12,11 @@ use Rattle.lexis.specs.declared.Answer.{Answer}
 use Rattle.lexis.specs.Lexer.{Token, lex}
 use Rattle.lexis.specs.Lexer.{accepted as lexed}
 use Rattle.syntax.specs.Code as Syntax
-use Rattle.rules.specs.Code as Rules
+use Rattle.lists.specs.Code as Lists
+use Rattle.documents.specs.Code as Documents
 use Rattle.syntax.specs.Tree.{Header, Document}
-use Rattle.rules.specs.Accepted.{AcceptedList, AcceptedDocument, StartsToken}
+use Rattle.lists.specs.Accepted.{AcceptedList, StartsToken}
+use Rattle.documents.specs.Accepted.{AcceptedDocument}
 use Rattle.canonical.specs.Code as Writing
 use Rattle.canonical.specs.Plan.{Plan}
 use Rattle.canonical.specs.Layout.{canonical}
@@ -61,33 +63,33 @@ pub data InTable (texts : List (List ℕ)) (Count Length : ℕ → Type 0) : Ans
   -- 10: a ninth bracket is opened
   bracket : {n p : ℕ} {text : List ℕ} → TextOf texts n text → AToken text p → InTable texts Count Length (answer Syntax.bracket n p 0)
   -- 11: the version is not spelt `1.0`
-  wrong-version : {p : ℕ} {text : List ℕ} → TextOf texts 2 text → AToken text p → InTable texts Count Length (answer Rules.wrongVersion 2 p 0)
+  wrong-version : {p : ℕ} {text : List ℕ} → TextOf texts 2 text → AToken text p → InTable texts Count Length (answer Documents.wrongVersion 2 p 0)
   -- 12: a count is above its size
-  over-size : {n p : ℕ} {text : List ℕ} → TextOf texts n text → AToken text p → InTable texts Count Length (answer Rules.overSize n p 0)
+  over-size : {n p : ℕ} {text : List ℕ} → TextOf texts n text → AToken text p → InTable texts Count Length (answer Lists.overSize n p 0)
   -- 13: a name is repeated
-  repeated-name : {n p : ℕ} {text : List ℕ} → TextOf texts n text → AToken text p → InTable texts Count Length (answer Rules.repeatedName n p 0)
+  repeated-name : {n p : ℕ} {text : List ℕ} → TextOf texts n text → AToken text p → InTable texts Count Length (answer Lists.repeatedName n p 0)
   -- 14: a default does not fit
-  bad-default : {p : ℕ} {text : List ℕ} → TextOf texts 1 text → AToken text p → InTable texts Count Length (answer Rules.badDefault 1 p 0)
+  bad-default : {p : ℕ} {text : List ℕ} → TextOf texts 1 text → AToken text p → InTable texts Count Length (answer Lists.badDefault 1 p 0)
   -- 15: an operation is not declared
-  undeclared : {p : ℕ} {text : List ℕ} → TextOf texts 2 text → AToken text p → InTable texts Count Length (answer Rules.undeclared 2 p 0)
+  undeclared : {p : ℕ} {text : List ℕ} → TextOf texts 2 text → AToken text p → InTable texts Count Length (answer Documents.undeclared 2 p 0)
   -- 16: a positional argument after a named one, beyond the parameters, or for a parameter that is not all tensor
-  misplaced : {p : ℕ} {text : List ℕ} → TextOf texts 2 text → AToken text p → InTable texts Count Length (answer Rules.misplaced 2 p 0)
+  misplaced : {p : ℕ} {text : List ℕ} → TextOf texts 2 text → AToken text p → InTable texts Count Length (answer Documents.misplaced 2 p 0)
   -- 17: a named argument is unknown or already bound
-  misnamed : {p : ℕ} {text : List ℕ} → TextOf texts 2 text → AToken text p → InTable texts Count Length (answer Rules.misnamed 2 p 0)
+  misnamed : {p : ℕ} {text : List ℕ} → TextOf texts 2 text → AToken text p → InTable texts Count Length (answer Documents.misnamed 2 p 0)
   -- 18: a bound argument does not fit
-  misfit : {p : ℕ} {text : List ℕ} → TextOf texts 2 text → AToken text p → InTable texts Count Length (answer Rules.misfit 2 p 0)
+  misfit : {p : ℕ} {text : List ℕ} → TextOf texts 2 text → AToken text p → InTable texts Count Length (answer Documents.misfit 2 p 0)
   -- 19: a parameter without default is not bound; the detail is its index, from 0
-  unbound : {p k : ℕ} {text : List ℕ} → TextOf texts 2 text → AToken text p → k < maxParameters → InTable texts Count Length (answer Rules.unbound 2 p k)
+  unbound : {p k : ℕ} {text : List ℕ} → TextOf texts 2 text → AToken text p → k < maxParameters → InTable texts Count Length (answer Documents.unbound 2 p k)
   -- 20: a left side does not match the results
-  unmatched : {p : ℕ} {text : List ℕ} → TextOf texts 2 text → AToken text p → InTable texts Count Length (answer Rules.unmatched 2 p 0)
+  unmatched : {p : ℕ} {text : List ℕ} → TextOf texts 2 text → AToken text p → InTable texts Count Length (answer Documents.unmatched 2 p 0)
   -- 21: an identifier is assigned again
-  assigned-again : {p : ℕ} {text : List ℕ} → TextOf texts 2 text → AToken text p → InTable texts Count Length (answer Rules.assignedAgain 2 p 0)
+  assigned-again : {p : ℕ} {text : List ℕ} → TextOf texts 2 text → AToken text p → InTable texts Count Length (answer Documents.assignedAgain 2 p 0)
   -- 22: an identifier is used, and not assigned by an earlier call
-  unassigned-use : {p : ℕ} {text : List ℕ} → TextOf texts 2 text → AToken text p → InTable texts Count Length (answer Rules.unassignedUse 2 p 0)
+  unassigned-use : {p : ℕ} {text : List ℕ} → TextOf texts 2 text → AToken text p → InTable texts Count Length (answer Documents.unassignedUse 2 p 0)
   -- 23: an input is not assigned by `external`, or another identifier is
-  misfed : {p : ℕ} {text : List ℕ} → TextOf texts 2 text → AToken text p → InTable texts Count Length (answer Rules.misfed 2 p 0)
+  misfed : {p : ℕ} {text : List ℕ} → TextOf texts 2 text → AToken text p → InTable texts Count Length (answer Documents.misfed 2 p 0)
   -- 24: an output is never assigned
-  unassigned-output : {p : ℕ} {text : List ℕ} → TextOf texts 2 text → AToken text p → InTable texts Count Length (answer Rules.unassignedOutput 2 p 0)
+  unassigned-output : {p : ℕ} {text : List ℕ} → TextOf texts 2 text → AToken text p → InTable texts Count Length (answer Documents.unassignedOutput 2 p 0)
   -- 25: the canonical text has too many bytes or tokens
   over-limits : {n : ℕ} → Length n → InTable texts Count Length (answer Writing.overLimits 0 0 0)
   -- 26: the output is shorter than the canonical text, which has so many bytes

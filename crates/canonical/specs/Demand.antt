@@ -9,7 +9,7 @@ use Rattle.lexis.specs.Sizes.{maxText, maxTokens, workWords}
 use Rattle.lexis.specs.Code as Code
 use Rattle.lexis.specs.declared.Answer.{Answer}
 use Rattle.syntax.specs.Tree.{Header, Document}
-use Rattle.rules.specs.Accepted.{AcceptedDocument}
+use Rattle.documents.specs.Accepted.{AcceptedDocument}
 use Rattle.canonical.specs.Plan.{Plan, planOf}
 use Rattle.canonical.specs.Layout.{documentPieces, canonical}
 use Rattle.canonical.specs.Answer.{CanonRoom, written, canonAnswer, outputAfter}

@@ -7,8 +7,8 @@ use mathlib.Core.Option.{none as nothing}
 use Rattle.lexis.specs.Ascii.{ascii}
 use Rattle.lexis.specs.Kind as Kind
 use Rattle.syntax.specs.Tree.{Param, Header}
-use Rattle.rules.specs.Reading.{Val, Vals, vName, vNumber, vExtent, vString, vLogical, vArray, vTuple, no-val, a-val}
-use Rattle.rules.specs.DocumentRules.{operationOf}
+use Rattle.lists.specs.Reading.{Val, Vals, vName, vNumber, vExtent, vString, vLogical, vArray, vTuple, no-val, a-val}
+use Rattle.lists.specs.Found.{operationOf}
 use Rattle.canonical.specs.Plan.{PlanCall, Plan}
 use Rattle.canonical.specs.Spelling.{decimal, spellNumber, spellString, spellTruth}
 use Rattle.canonical.specs.Pieces.{Piece, text}

@@ -4,9 +4,9 @@ use mathlib.Core.List.{List, [], _∷_, map}
 use mathlib.Core.Option.{Option, some}
 use Rattle.lexis.specs.Lexer.{Token}
 use Rattle.syntax.specs.Tree.{Header, Call, Document}
-use Rattle.rules.specs.Reading.{Val, bind, readAt, resultType}
-use Rattle.rules.specs.Binding.{Slot, orElse, slots}
-use Rattle.rules.specs.DocumentRules.{find}
+use Rattle.lists.specs.Reading.{Val, bind, readAt, resultType}
+use Rattle.lists.specs.Found.{find}
+use Rattle.documents.specs.Binding.{Slot, orElse, slots}
 
 -- A call: the operation's name, the left pattern, and the value of every parameter in declared order.
 pub record PlanCall : Type 0 where

@@ -24,11 +24,11 @@ use Rattle.syntax.specs.Parser.{Parse, value}
 use Rattle.syntax.specs.Parser.Parse.{ok, bad}
 use Rattle.syntax.specs.Inner.{lookahead}
 use Rattle.syntax.specs.Table.{kindAt, tokenAt, toks}
-use Rattle.rules.specs.Reading.{Val, Vals, isNumber, nameAt, literalAt, readAt, readAll, readEach}
+use Rattle.lists.specs.Reading.{Val, Vals, isNumber, nameAt, literalAt, readAt, readAll, readEach}
 use Rattle.lexis.specs.declared.Answer.{Answer}
-use Rattle.rules.specs.Answer.{Stage, stageAnswer}
+use Rattle.lists.specs.Answer.{Stage, stageAnswer}
 use Rattle.canonical.specs.Answer.{outputAfter}
-use Rattle.rules.specs.Fitting.{stacked, IsBase, Columns, InArray}
+use Rattle.lists.specs.Fitting.{stacked, IsBase, Columns, InArray}
 use Rattle.canonical.specs.declared.place.Place.{Place}
 use Rattle.canonical.specs.declared.value.Put.{Put}
 use Rattle.canonical.specs.declared.argument.Bound.{Bound}

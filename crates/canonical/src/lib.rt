@@ -12,13 +12,13 @@ mod writer;
 
 use code::Code;
 use document::put_document;
+use documents::check::long_text;
+use documents::stages::Staged;
+use documents::stages::both_stages;
 use lexis::Answer;
 use lexis::limits::Limits;
+use lists::clear;
 use place::Place;
-use rules::check::long_text;
-use rules::clear;
-use rules::stages::Staged;
-use rules::stages::both_stages;
 ghost use mathlib.Core.Path.{_≡_};
 ghost use mathlib.Core.Bool.{_&&_};
 ghost use Prim.Native.Nat.{_≤_};
@@ -26,8 +26,8 @@ ghost use lib.Dec.{leb};
 ghost use lib.ListN.{length};
 ghost use Rattle.lexis.specs.Answer.{answer};
 ghost use Rattle.lexis.specs.Sizes.{maxText, maxTokens, workWords};
-ghost use Rattle.rules.specs.Answer.{workAfter};
-ghost use Rattle.rules.specs.Stages.{BothPassed};
+ghost use Rattle.lists.specs.Answer.{workAfter};
+ghost use Rattle.documents.specs.Stages.{BothPassed};
 ghost use Rattle.canonical.specs.Answer.{textStages, canonRoom, written, canonAnswer, outputAfter};
 ghost use Rattle.canonical.specs.Writing.{Wrote};
 

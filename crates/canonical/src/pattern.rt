@@ -19,7 +19,7 @@ ghost use Rattle.syntax.specs.Tree.{Value, Ty};
 ghost use Rattle.syntax.specs.Parser.{expect, row, plain, commas, left};
 ghost use Rattle.syntax.specs.Parser.Parse.{ok};
 ghost use Rattle.syntax.specs.Table.{tokenAt, toks, Holds};
-ghost use Rattle.rules.specs.Reading.{Val, readAt};
+ghost use Rattle.lists.specs.Reading.{Val, readAt};
 ghost use Rattle.canonical.specs.Plan.{spellings};
 ghost use Rattle.canonical.specs.Layout.{namesPieces, leftPieces};
 ghost use Rattle.canonical.specs.Writing.{Puts, patternPiece, patternPieces, isBracketed};

@@ -2,7 +2,7 @@
 // write it.
 use crate::writer::write_line;
 use lexis::limits::Limits;
-use rules::word::word;
+use lists::word::word;
 ghost use mathlib.Core.Path.{_≡_};
 ghost use mathlib.Core.List.{_∷_, []};
 ghost use Prim.Native.Nat.{ℕ, _<_};

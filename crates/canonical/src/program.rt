@@ -5,7 +5,7 @@ use crate::spelling::put_digits;
 use lexis::Answer;
 ghost use mathlib.Core.Path.{_≡_};
 ghost use lib.ListN.{length};
-ghost use Rattle.rules.specs.Answer.{workAfter};
+ghost use Rattle.lists.specs.Answer.{workAfter};
 ghost use Rattle.canonical.specs.Answer.{canonRoom, written, canonAnswer};
 ghost use Rattle.canonical.specs.Program.{printed, shown};
 ghost use Rattle.canonical.specs.Writing.{passed, stored, numberThen};

@@ -7,7 +7,7 @@ use crate::writer::write_quoted;
 use lexis::limits::Limits;
 use lexis::number::Reduction;
 use lexis::number::reduce;
-use rules::fitting::digit;
+use lists::fitting::digit;
 ghost use mathlib.Core.Path.{_≡_};
 ghost use mathlib.Core.Bool.{true};
 ghost use Prim.Native.Nat.{_≤_};
@@ -17,7 +17,7 @@ ghost use lib.ListN.{length};
 ghost use Rattle.lexis.specs.Bytes.{classTable};
 ghost use Rattle.lexis.specs.Sizes.{maxNumber, maxExtent};
 ghost use Rattle.lexis.specs.Number.{Reduced, valueFrom, partsOf, reducedOf, isNear, inRange};
-ghost use Rattle.rules.specs.Reading.{contentOf};
+ghost use Rattle.lists.specs.Reading.{contentOf};
 ghost use Rattle.canonical.specs.Spelling.{decimal, spellExponent, spellNumber, quoteFor, spellString, spellTruth};
 ghost use Rattle.canonical.specs.Writing.{passed, stored, PutsWord};
 

@@ -99,7 +99,7 @@ fn check_case(list: &[u8], document: &[u8]) {
     let mut work2 = [0u32; Limits::WORK_WORDS];
     let mut calls = [0u32; Limits::CALL_WORDS];
     let mut wires = [0u32; Limits::WIRE_WORDS];
-    print_answer(rules::check::check(
+    print_answer(documents::check::check(
         list,
         document,
         &mut work1,

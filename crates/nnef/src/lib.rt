@@ -4,7 +4,8 @@ ghost use mathlib.Core.Path.{_≡_};
 ghost use lib.ListN.{length};
 ghost use Rattle.lexis.specs.Answer.{tokensAnswer, tokensTable};
 ghost use Rattle.canonical.specs.Answer.{canonRoom, written, canonAnswer, outputAfter};
-ghost use Rattle.rules.specs.Answer.{declarationsAnswer, checkRoom, checked, checkAnswer, callsAfter, wiresAfter, workAfter};
+ghost use Rattle.lists.specs.Answer.{declarationsAnswer, workAfter};
+ghost use Rattle.documents.specs.Answer.{checkRoom, checked, checkAnswer, callsAfter, wiresAfter};
 
 #[no_mangle]
 pub extern "C" fn nnef_tokens(text: &[u8], table: &mut [u32]) -> Answer
@@ -19,7 +20,7 @@ pub extern "C" fn nnef_declarations(list: &[u8], work: &mut [u32]) -> Answer
     ensures { λ r. ⌜ r ≡ declarationsAnswer (now (list .entry)) (length (now (work .entry))) ⌝ }
     ensures { λ r. ⌜ now (work .exit) ≡ workAfter r (now (work .entry)) ⌝ }
 {
-    rules::declarations(list, work)
+    lists::declarations(list, work)
 }
 
 #[no_mangle]
@@ -37,7 +38,7 @@ pub extern "C" fn nnef_check(
     ensures { λ r. ⌜ now (work1 .exit) ≡ workAfter r (now (work1 .entry)) ⌝ }
     ensures { λ r. ⌜ now (work2 .exit) ≡ workAfter r (now (work2 .entry)) ⌝ }
 {
-    rules::check::check(list, document, work1, work2, calls, wires)
+    documents::check::check(list, document, work1, work2, calls, wires)
 }
 
 #[no_mangle]

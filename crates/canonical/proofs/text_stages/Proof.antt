@@ -2,7 +2,7 @@
 use mathlib.Core.Path.{refl}
 use native.Mathlib.Omega.{arith}
 use lib.ListN.{length}
-use Rattle.rules.proofs.BothStages.{both-passed, both-stopped}
+use Rattle.documents.proofs.BothStages.{both-passed, both-stopped}
 use Rattle.canonical.proofs.CanonStages.{wrote-stopped, text-stopped}
 use borrow.Author.Needs.{needs}
 use Rattle.canonical.proofs.text_stages.Statement.{statement}

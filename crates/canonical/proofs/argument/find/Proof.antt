@@ -4,9 +4,9 @@ use Prim.Native.Nat.{_-_, _≤_}
 use native.Mathlib.Omega.{arith}
 use Rattle.lexis.specs.Sizes.{maxBrackets}
 use Rattle.syntax.specs.Parser.{argument}
-use Rattle.rules.specs.declared.parameter.Next.{Next}
-use Rattle.rules.specs.Arguments.{GoesOn, Ahead}
-use Rattle.rules.proofs.Items.{clash}
+use Rattle.documents.specs.declared.parameter.Next.{Next}
+use Rattle.documents.specs.Arguments.{GoesOn, Ahead}
+use Rattle.documents.proofs.Items.{clash}
 use Rattle.canonical.proofs.ArgumentPlaces.{Seeks, seeks-all, seek-here, seek-ended, seek-on}
 use borrow.Author.Needs.{needs}
 use Rattle.canonical.proofs.argument.find.Statement.{statement}

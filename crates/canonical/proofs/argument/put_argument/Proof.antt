@@ -2,7 +2,7 @@
 use native.Mathlib.Omega.{arith}
 use Rattle.lexis.specs.Sizes.{maxBrackets}
 use Rattle.syntax.specs.Grammar.{both}
-use Rattle.rules.proofs.Items.{param-type}
+use Rattle.documents.proofs.Items.{param-type}
 use Rattle.canonical.proofs.ArgumentPlaces.{found-at, found-none, bound-value, default-value}
 use Rattle.canonical.proofs.ArgumentPuts.{argument-put}
 use borrow.Author.Needs.{needs}

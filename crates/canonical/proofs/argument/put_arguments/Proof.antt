@@ -6,8 +6,8 @@ use lib.ListN.{length}
 use Rattle.lexis.specs.Kind as Kind
 use Rattle.lexis.specs.Sizes.{maxBrackets}
 use Rattle.syntax.specs.Parser.{param}
-use Rattle.rules.specs.declared.parameter.Next.{Next}
-use Rattle.rules.specs.Arguments.{GoesOn, Ahead}
+use Rattle.documents.specs.declared.parameter.Next.{Next}
+use Rattle.documents.specs.Arguments.{GoesOn, Ahead}
 use Rattle.canonical.proofs.ArgumentPuts.{PutsLeft, puts-start, puts-last, puts-on, puts-past}
 use borrow.Author.Needs.{needs}
 use Rattle.canonical.proofs.argument.put_arguments.Statement.{statement}

@@ -4,7 +4,7 @@ use lib.ListN.{length}
 use Rattle.lexis.specs.Sizes.{maxBrackets}
 use Rattle.syntax.specs.Grammar.{literals}
 use Rattle.syntax.proofs.Symbols.{stands}
-use Rattle.rules.proofs.Items.{type-read, param-type}
+use Rattle.documents.proofs.Items.{type-read, param-type}
 use Rattle.canonical.proofs.ArgumentPlaces.{default-sign, default-there}
 use borrow.Author.Needs.{needs}
 use Rattle.canonical.proofs.argument.put_default.Statement.{statement}

@@ -7,9 +7,9 @@ use Rattle.lexis.specs.Kind as Kind
 use Rattle.syntax.specs.Symbol.{rightRound}
 use Rattle.syntax.specs.Parser.{row, plain, commas, argument, header}
 use Rattle.syntax.specs.Table.{toks}
-use Rattle.rules.specs.Reading.{resultType}
-use Rattle.rules.specs.Found.{found}
-use Rattle.rules.proofs.Declared.{left-over, params-read, found-below, found-missing, head-found}
+use Rattle.lists.specs.Reading.{resultType}
+use Rattle.lists.specs.Found.{found}
+use Rattle.documents.proofs.Declared.{left-over, params-read, found-below, found-missing, head-found}
 use borrow.Author.Needs.{needs}
 use Rattle.canonical.proofs.Planned.{nothing-some, planned}
 use Rattle.canonical.proofs.CallWrites.{under, puts-call}

@@ -8,9 +8,9 @@ use lib.ListN.{length}
 use Rattle.lexis.specs.Sizes.{maxBrackets}
 use Rattle.syntax.specs.Tree.{Header, Call}
 use Rattle.syntax.specs.Table.{toks}
-use Rattle.rules.specs.DocumentRules.{argumentFaults}
-use Rattle.rules.specs.Lists.{Heads}
-use Rattle.rules.specs.Calls.{Calls}
+use Rattle.lists.specs.Lists.{Heads}
+use Rattle.documents.specs.DocumentRules.{argumentFaults}
+use Rattle.documents.specs.Calls.{Calls}
 use Rattle.canonical.specs.Plan.{PlanCall, planCalls}
 use Rattle.canonical.specs.Layout.{callsPieces}
 use Rattle.canonical.proofs.CallWrites.{Ahead, ahead-next, ahead-end}

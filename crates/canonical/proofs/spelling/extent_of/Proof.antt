@@ -7,7 +7,7 @@ use borrow.Author.Needs.{needs}
 use Rattle.lexis.specs.Sizes.{maxExtent}
 use Rattle.lexis.specs.Ascii.{byte}
 use Rattle.lexis.specs.Number.{valueFrom}
-use Rattle.rules.proofs.Extents.{value-step}
+use Rattle.lists.proofs.Extents.{value-step}
 use Rattle.canonical.proofs.Spelled.{beyond, value-end}
 use Rattle.canonical.proofs.spelling.extent_of.Statement.{statement}
 use Rattle.canonical.proofs.spelling.extent_of.Tie as tie

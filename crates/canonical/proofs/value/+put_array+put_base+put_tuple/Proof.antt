@@ -26,7 +26,7 @@ use Rattle.canonical.proofs.value.put_tuple.Kinds as put-tuple-kinds
 use Rattle.canonical.proofs.value.+put_array+put_base+put_tuple.Lts-put_tuple as put-tuple-lts
 use Rattle.canonical.proofs.place.put_word.Reads as put-word-reads
 use Rattle.canonical.proofs.value.put_leaf.Reads as put-leaf-reads
-use Rattle.rules.proofs.fitting.shape_at.Reads as shape-at-reads
+use Rattle.lists.proofs.fitting.shape_at.Reads as shape-at-reads
 use Rattle.syntax.proofs.symbol.symbol_at.Reads as symbol-at-reads
 use Rattle.canonical.proofs.value.+put_array+put_base+put_tuple.{statement}
 use Rattle.canonical.proofs.value.+put_array+put_base+put_tuple.Tie.{close}

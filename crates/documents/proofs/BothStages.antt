@@ -1,0 +1,171 @@
+-- From the bytes of a document under a list that has passed to what the stages of both texts come to. Relies on `Acceptance` for what
+-- passes, on `syntax` for the faults of bytes and syntax.
+use mathlib.Core.Path.{_≡_, refl, sym, ap, ap₂, subst, _∙_}
+use mathlib.Core.List.{List, []}
+use mathlib.Core.Option.{some}
+use mathlib.Core.Option.{none as nothing}
+use Prim.Native.Nat.{ℕ, _+_, _-_, _*_, _≤_}
+use native.Mathlib.Nat.{zero-add}
+use native.Mathlib.Omega.{arith}
+use lib.ListN.{length, take, drop}
+use borrow.Author.Tests.{ne-eqb}
+use Rattle.lexis.specs.Sizes.{maxTokens, recordWords, scratchStart, maxBrackets}
+use Rattle.lexis.specs.Lexer.{Token, Lexed, accepted, refused, lex}
+use Rattle.lexis.specs.Answer.{answer}
+use Rattle.lexis.specs.Work.{Recorded, Room}
+use Rattle.lexis.specs.Answer as LA
+use Rattle.lexis.specs.declared.Answer.{Answer}
+use Rattle.lexis.specs.declared.Counted.{Counted}
+use Rattle.lexis.specs.declared.Counted.the-variants as C
+use Rattle.syntax.specs.Tree.{Header, Document}
+use Rattle.syntax.specs.Parser.{Parse, parseList, parseDocument}
+use Rattle.syntax.specs.Parser.Parse.{ok, bad}
+use Rattle.syntax.specs.Table.{toks, placeOf, parsed}
+use Rattle.syntax.specs.Read.{agreed, readAfter, readOf}
+use Rattle.syntax.specs.declared.Syntax.the-variants as S
+use Rattle.syntax.proofs.Reading.{got}
+use Rattle.syntax.proofs.Theorems.{document-all-read}
+use Rattle.lists.specs.Fault.{first}
+use Rattle.lists.specs.Best.{faultOf, meant}
+use Rattle.lists.specs.ListRules.{listFaults}
+use Rattle.lists.specs.Lists.{Heads, NamePlaces}
+use Rattle.lists.specs.Answer.{Stage, pass, stop, andThen, bytesStage, syntaxStage, rulesStage, listStages}
+use Rattle.lists.specs.Stages.{directoryOf, ListPassed}
+use Rattle.lists.specs.declared.best.Best.{Best}
+use Rattle.lists.proofs.Acceptance.{passed}
+use Rattle.documents.specs.DocumentRules.{documentFaults}
+use Rattle.documents.specs.Operations.{Opened}
+use Rattle.documents.specs.Answer.{documentStages, Checked, bothStages}
+use Rattle.documents.specs.Stages.{DocumentRead, BothPassed, BothDone}
+use Rattle.documents.specs.declared.stages.Staged.{Staged}
+use Rattle.documents.specs.declared.stages.Staged.the-variants.{Passed, Stopped}
+use Rattle.documents.proofs.Declared.{heads-open}
+use Rattle.documents.proofs.Storing.{heads-count}
+
+-- ---- what has passed has no fault
+
+-- what both stages give together
+abbrev pub joined : List Header → Document → Stage Checked
+joined hs d = pass (record { headers = hs; document = d })
+
+pub list-clean : (text : List ℕ) (hs : List Header) → listStages text ≡ pass hs → first (listFaults hs) ≡ nothing
+unfolding listStages first
+list-clean text hs e = ap first (passed 1 parseList listFaults text hs e .lawful)
+
+pub document-clean : (hs : List Header) (text : List ℕ) (d : Document) → documentStages hs text ≡ pass d → first (documentFaults hs d) ≡ nothing
+unfolding documentStages first
+document-clean hs text d e = ap first (passed 2 parseDocument (documentFaults hs) text d e .lawful)
+
+-- ---- bytes and syntax of the document
+
+module _ (text before after : List ℕ) (n : ℕ) (small : n ≤ maxTokens) where
+  read-by : (l : Lexed) → lex text ≡ l → C.Tokens n ≡ readAfter S.Document (length text) l → Recorded l before after → n * recordWords ≤ length before → DocumentRead text after n
+  unfolding documentStages
+  read-by (refused c p) e h w r = let z : _≡_ {A = ℕ} 0 1 = cc in absurd (omega arith)
+  read-by (accepted ts) e h w r = go (parseDocument ts) refl h
+    where
+      go : (p : Parse Document) → parseDocument ts ≡ p → C.Tokens n ≡ agreed (length ts) (parsed (length text) (length ts) p) → DocumentRead text after n
+      go (bad c us) q k = let z : _≡_ {A = ℕ} 0 1 = cc in absurd (omega arith)
+      go (ok d us) q k =
+          let m : n ≡ length ts = cc in
+          let g = got text before after (C.Tokens n) n (ap C.Tokens (m ∙ sym (zero-add (length ts))) ∙ ap LA.counted (sym e)) (subst (λ (l : Lexed). Recorded l before after) (sym e) w) (small, r) refl in
+          let same : g .tokens ≡ ts = let y = sym (g .is) ∙ e in cc in
+          let t : toks text after n 0 ≡ ts = g .decoded ∙ same in
+          let none : us ≡ [] = document-all-read maxBrackets ts d us q in
+          record {
+            document = d;
+            small = small;
+            lexed = e ∙ ap accepted (sym t);
+            table = g .table;
+            parsed = ap parseDocument t ∙ q ∙ ap (λ (x : List Token). ok d x) none;
+            stages =
+                λ hs.
+                ap (λ (l : Lexed). andThen (bytesStage 2 l) (λ xs. andThen (syntaxStage 2 text (parseDocument xs)) (λ y. rulesStage 2 y (first (documentFaults hs y))))) e
+                ∙ ap (λ (x : Parse Document). andThen (syntaxStage 2 text x) (λ y. rulesStage 2 y (first (documentFaults hs y)))) q;
+          }
+
+  pub read-document : {x : Counted} → x ≡ readOf S.Document text → x ≡ C.Tokens n → Recorded (lex text) before after → Room x (length before) → DocumentRead text after n
+  read-document {x} h e w r = read-by (lex text) refl (sym e ∙ h) w (subst (λ (y : Counted). Room y (length before)) e r .1)
+
+-- a fault of the bytes or the syntax stops the stages
+pub document-stops : (hs : List Header) (text : List ℕ) {c p : ℕ} {x : Counted} → x ≡ readOf S.Document text → x ≡ C.Fault c p → documentStages hs text ≡ stop (answer c 2 p 0)
+unfolding documentStages
+document-stops hs text {c} {p} h e = go (lex text) (sym e ∙ h)
+  where
+    parses : (ts : List Token) (x : Parse Document) → C.Fault c p ≡ agreed (length ts) (parsed (length text) (length ts) x)
+        → andThen (syntaxStage 2 text x) (λ y. rulesStage 2 y (first (documentFaults hs y))) ≡ stop (answer c 2 p 0)
+    parses ts (ok d us) k = let z : _≡_ {A = ℕ} 0 1 = cc in absurd (omega arith)
+    parses ts (bad d us) k = let a : d ≡ c = cc in let b : placeOf (length text) us ≡ p = cc in ap₂ (λ (x y : ℕ). stop (answer x 2 y 0)) a b
+
+    go : (l : Lexed) → C.Fault c p ≡ readAfter S.Document (length text) l → andThen (bytesStage 2 l) (λ xs. andThen (syntaxStage 2 text (parseDocument xs)) (λ y. rulesStage 2 y (first (documentFaults hs y)))) ≡ stop (answer c 2 p 0)
+    go (refused d q) k = let a : d ≡ c = cc in let b : q ≡ p = cc in ap₂ (λ (x y : ℕ). stop (answer x 2 y 0)) a b
+    go (accepted ts) k = parses ts (parseDocument ts) k
+
+-- ---- the directory as it is lent: a part of the work area
+
+abbrev namesPart : List ℕ → ℕ → List ℕ
+namesPart work k = take (scratchStart + k - scratchStart) (drop scratchStart work)
+
+part-is : (work : List ℕ) (k : ℕ) → directoryOf work k ≡ namesPart work k
+part-is work k = let e : k ≡ scratchStart + k - scratchStart = omega arith in ap (λ (m : ℕ). take m (drop scratchStart work)) e
+
+module _ {text work : List ℕ} {n k : ℕ} (p : ListPassed text work n k) where
+  pub part-heads : Heads text work n maxBrackets (namesPart work k) (p .headers)
+  part-heads = subst (λ (x : List ℕ). Heads text work n maxBrackets x (p .headers)) (part-is work k) (p .heads)
+
+  pub part-places : NamePlaces n (namesPart work k)
+  part-places = subst (λ (x : List ℕ). NamePlaces n x) (part-is work k) (p .places)
+
+  pub part-open : Opened n (namesPart work k)
+  part-open = heads-open text work n maxBrackets part-places part-heads
+
+  pub part-few : length (namesPart work k) ≤ maxTokens
+  part-few = let e = sym (heads-count part-heads) ∙ p .count in omega (arith, e, p .few, p .small)
+
+-- ---- what the stages of both texts come to
+
+module _ (list doc : List ℕ) where
+  pub list-stopped : {r : Answer} → listStages list ≡ stop r → bothStages list doc ≡ stop r
+  unfolding bothStages
+  list-stopped e = ap (λ (s : Stage (List Header)). andThen s (λ hs. andThen (documentStages hs doc) (λ d. joined hs d))) e
+
+  -- under a list that has passed, the document decides
+  pub both-under : {hs : List Header} {s : Stage Document} → listStages list ≡ pass hs → documentStages hs doc ≡ s → bothStages list doc ≡ andThen s (λ d. joined hs d)
+  unfolding bothStages
+  both-under {hs} p e =
+      ap (λ (s : Stage (List Header)). andThen s (λ hs. andThen (documentStages hs doc) (λ d. joined hs d))) p
+      ∙ ap (λ (s : Stage Document). andThen s (λ d. joined hs d)) e
+
+-- the rules of the document: a fault, or none
+module _ {list doc work₁ work₂ : List ℕ} {n k m : ℕ} (l : ListPassed list work₁ n k) (r : DocumentRead doc work₂ m) (best : Best)
+    (rules : (hs : List Header) (d : Document) → Heads list work₁ n maxBrackets (namesPart work₁ k) hs → first (listFaults hs) ≡ nothing → parseDocument (toks doc work₂ m 0) ≡ ok d [] → meant best ≡ first (documentFaults hs d)) where
+  found-is : meant best ≡ first (documentFaults (l .headers) (r .document))
+  found-is = rules (l .headers) (r .document) (part-heads l) (list-clean list (l .headers) (l .stages)) (r .parsed)
+
+  pub rules-stop : (best .code ≡ 0 → ⊥) → bothStages list doc ≡ stop (answer (best .code) 2 (best .at) (best .detail))
+  unfolding meant
+  rules-stop z =
+      let q : some (faultOf best) ≡ first (documentFaults (l .headers) (r .document)) = rw (ne-eqb (best .code) 0 z) at found-is in
+      both-under list doc (l .stages) (r .stages (l .headers) ∙ ap (rulesStage 2 (r .document)) (sym q))
+
+  pub rules-pass : best .code ≡ 0 → BothPassed list doc work₁ work₂ n k m
+  unfolding meant
+  rules-pass z =
+      let q : nothing ≡ first (documentFaults (l .headers) (r .document)) = rw z at found-is in
+      record {
+        first = l;
+        second = record {
+          document = r .document;
+          stages = r .stages (l .headers) ∙ ap (rulesStage 2 (r .document)) (sym q);
+          small = r .small;
+          lexed = r .lexed;
+          table = r .table;
+          parsed = r .parsed;
+        };
+      }
+
+pub both-passed : {list doc work₁ work₂ : List ℕ} {x : Staged} {n k m : ℕ} → BothDone list doc work₁ work₂ x → x ≡ Passed n k m → BothPassed list doc work₁ work₂ n k m
+both-passed {list} {doc} {work₁} {work₂} d e = subst (BothDone list doc work₁ work₂) e d
+
+pub both-stopped : (list doc work₁ work₂ : List ℕ) (x : Staged) {r : Answer} → BothDone list doc work₁ work₂ x → x ≡ Stopped r → bothStages list doc ≡ stop r
+both-stopped list doc work₁ work₂ x d e = subst (BothDone list doc work₁ work₂) e d

@@ -1,0 +1,42 @@
+-- Calls in a body, which the contracts of the walks over it cite: calls in a row, and the places of a call's parts.
+use mathlib.Core.Path.{_≡_}
+use mathlib.Core.List.{List, [], _∷_}
+use Prim.Native.Nat.{ℕ, _+_, _<_, _≤_}
+use Rattle.lexis.specs.Lexer.{Token}
+use Rattle.syntax.specs.Symbol.{rightRound}
+use Rattle.syntax.specs.Tree.{Arg, Call}
+use Rattle.syntax.specs.Parser.{plain, commas, row, argument, left, call}
+use Rattle.syntax.specs.Parser.Parse.{ok}
+use Rattle.syntax.specs.Table.{tokenAt, toks}
+use Rattle.lists.specs.Names.{firstToken, assigned, used}
+use Rattle.lists.specs.Scans.{namesAmong, usesAmong}
+use Rattle.documents.specs.declared.calls.Places.{Places}
+
+-- calls in a row, from the tokens before them to those after them
+pub data Calls (b : ℕ) : List Token → List Call → List Token → Type 0 where
+  no-call : {ts : List Token} → Calls b ts [] ts
+  a-call : {ts us ws : List Token} {c : Call} {cs : List Call} → call b ts ≡ ok c us → Calls b us cs ws → Calls b ts (c ∷ cs) ws
+
+-- these arguments are read here
+pub record Arguments (b : ℕ) (ts : List Token) (xs : List Arg) : Type 0 where
+  pub behind : List Token
+  pub read : row plain (commas rightRound) (argument b) ts ≡ ok xs behind
+
+-- the call c, read from place `at`, has its parts at the places p, and us after it
+pub record CallAt (text table : List ℕ) (n at : ℕ) (p : Places) (c : Call) (us : List Token) : Type 0 where
+  pub first : tokenAt text table at ≡ firstToken (c .left)
+  pub leads : (b : ℕ) (ws : List Token) → call b (toks text table n at) ≡ ok c ws → left b (toks text table n at) ≡ ok (c .left) (toks text table n (p .equal + 1))
+  pub assigns : namesAmong (toks text table (p .equal) at) ≡ assigned c
+  pub title : tokenAt text table (p .equal + 1) ≡ c .op
+  pub uses : usesAmong (toks text table (p .close) (p .equal + 3)) ≡ used c
+  pub arguments : (b : ℕ) (ws : List Token) → call b (toks text table n at) ≡ ok c ws → Arguments b (toks text table n (p .equal + 3)) (c .args)
+  pub after : us ≡ toks text table n (p .next)
+  pub inside : (at < n) × (p .equal + 1 < n) × (p .next ≤ n)
+
+-- whatever stands there, the places lie in the table and go on
+pub record PlacesInside (n at : ℕ) (p : Places) : Type 0 where
+  pub from : at ≤ p .equal
+  pub left : p .equal ≤ n
+  pub right : p .close ≤ n
+  pub on : p .equal < p .next
+  pub past : p .close < p .next

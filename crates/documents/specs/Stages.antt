@@ -1,0 +1,49 @@
+-- What the stages of both texts come to, and what those of a document leave in its work area: a table in front.
+use Prim.Native.Nat.{ℕ, _≤_}
+use mathlib.Core.Path.{_≡_}
+use mathlib.Core.List.{List, []}
+use Rattle.lexis.specs.Sizes.{maxTokens}
+use Rattle.lexis.specs.Lexer.{accepted, lex}
+use Rattle.syntax.specs.Tree.{Header, Document}
+use Rattle.syntax.specs.Parser.{parseDocument}
+use Rattle.syntax.specs.Parser.Parse.{ok}
+use Rattle.syntax.specs.Table.{toks, Holds}
+use Rattle.lists.specs.Fault as F
+use Rattle.lists.specs.Answer.{pass, stop, rulesStage}
+use Rattle.lists.specs.Stages.{ListPassed}
+use Rattle.documents.specs.DocumentRules.{documentFaults}
+use Rattle.documents.specs.Answer.{documentStages, bothStages}
+use Rattle.documents.specs.declared.stages.Staged.{Staged}
+use Rattle.documents.specs.declared.stages.Staged.the-variants as S
+
+-- ---- a document under a list
+
+-- the tokens of the text stand in the table, and they are a document; its rules under a list are the stage that is left
+pub record DocumentRead (text work : List ℕ) (n : ℕ) : Type 0 where
+  pub document : Document
+  pub small : n ≤ maxTokens
+  pub lexed : lex text ≡ accepted (toks text work n 0)
+  pub table : Holds text work n
+  pub parsed : parseDocument (toks text work n 0) ≡ ok document []
+  pub stages : (hs : List Header) → documentStages hs text ≡ rulesStage 2 document (F.first (documentFaults hs document))
+
+-- the document has passed its stages under the headers; it has n tokens
+pub record DocumentPassed (hs : List Header) (text work : List ℕ) (n : ℕ) : Type 0 where
+  pub document : Document
+  pub stages : documentStages hs text ≡ pass document
+  pub small : n ≤ maxTokens
+  pub lexed : lex text ≡ accepted (toks text work n 0)
+  pub table : Holds text work n
+  pub parsed : parseDocument (toks text work n 0) ≡ ok document []
+
+-- ---- both texts
+
+-- both have passed; the list has n tokens and k operations, the document m tokens
+pub record BothPassed (list doc work₁ work₂ : List ℕ) (n k m : ℕ) : Type 0 where
+  pub first : ListPassed list work₁ n k
+  pub second : DocumentPassed (first .headers) doc work₂ m
+
+-- what the stages come to
+abbrev pub BothDone : List ℕ → List ℕ → List ℕ → List ℕ → Staged → Type 0
+BothDone list doc work₁ work₂ (S.Passed n k m) = BothPassed list doc work₁ work₂ n k m
+BothDone list doc work₁ work₂ (S.Stopped r) = bothStages list doc ≡ stop r

@@ -1,0 +1,38 @@
+-- The theorems, the page to read first.
+pub mod Theorems
+-- The order of faults; texts that pass.
+pub mod First
+pub mod Acceptance
+pub mod Guards
+pub mod Members
+-- Fitting: numbers at extent, trees, the tokens of types.
+pub mod Extents
+pub mod Fits
+pub mod TypeTokens
+pub mod Phrases
+pub mod Answers
+pub mod Matching
+-- Names: parts of a table, rules of single names.
+pub mod Parts
+pub mod Rules
+pub mod NameScans
+pub mod Bests
+-- Operation lists: flat scans, headers, the directory, the stages.
+pub mod HeaderScans
+pub mod Passes
+pub mod HeaderParses
+pub mod HeaderLayout
+pub mod Defaults
+pub mod ListFaults
+pub mod Faultless
+pub mod Own
+pub mod Directories
+pub mod Rulings
+pub mod HeaderWalks
+pub mod Front
+pub mod ListStages
+pub mod Clearing
+-- What a list is refused for, and what is answered.
+pub mod Lines
+pub mod Refusals
+pub mod ListAnswers

@@ -1,0 +1,65 @@
+// The stages of an operation list: bytes, syntax, rules.
+use crate::headers::list_rules;
+use crate::operation::directory;
+use lexis::Answer;
+use lexis::Counted;
+use lexis::limits::Limits;
+use syntax::Syntax;
+use syntax::read;
+ghost use mathlib.Core.Path.{_≡_};
+ghost use Prim.Native.Nat.{_≤_};
+ghost use lib.ListN.{length};
+ghost use Rattle.lexis.specs.Bytes.{classTable};
+ghost use Rattle.lexis.specs.Sizes.{maxText, maxTokens, workWords};
+ghost use Rattle.lists.specs.Stages.{ListRead, ListDone};
+
+// What the stages of a list come to: how many tokens and operations it has, or a refusal.
+pub enum Listed {
+    Passed(usize, usize),
+    Stopped(Answer),
+}
+
+// The rules of the list of n tokens in the table in front of a work area. Leaves the directory behind the table.
+fn rules_stage(text: &[u8], work: &mut [u32], n: usize) -> Listed
+    requires { ⌜ ListRead (now text) (now work) n ⌝ }
+    requires { ⌜ length (now text) ≤ maxText ⌝ }
+    requires { ⌜ (n ≤ maxTokens) × (workWords ≤ length (now work)) ⌝ }
+    ensures { λ r. ⌜ ListDone (now (text .entry)) (now (work .exit)) r ⌝ }
+    ensures { λ _. ⌜ length (now (work .exit)) ≡ length (now (work .entry)) ⌝ }
+{
+    let k = directory(text, &mut *work, n);
+    let best = list_rules(
+        text,
+        &work[0..Limits::SCRATCH_START],
+        n,
+        &work[Limits::SCRATCH_START..Limits::SCRATCH_START + k],
+    );
+    if best.code == 0 {
+        return Listed::Passed(n, k);
+    }
+    Listed::Stopped(Answer {
+        code: best.code,
+        text: 1,
+        position: best.at,
+        detail: best.detail,
+    })
+}
+
+// The three stages of a list. Where it passes, the work area holds its table and its directory; else anything.
+pub fn list_stages(classes: &[u8; 256], text: &[u8], work: &mut [u32]) -> Listed
+    requires { ⌜ now classes ≡ classTable ⌝ }
+    requires { ⌜ length (now text) ≤ maxText ⌝ }
+    requires { ⌜ workWords ≤ length (now work) ⌝ }
+    ensures { λ r. ⌜ ListDone (now (text .entry)) (now (work .exit)) r ⌝ }
+    ensures { λ _. ⌜ length (now (work .exit)) ≡ length (now (work .entry)) ⌝ }
+{
+    match read(classes, text, &mut *work, Syntax::List) {
+        Counted::Tokens(n) => rules_stage(text, work, n as usize),
+        Counted::Fault { code, at } => Listed::Stopped(Answer {
+            code: code,
+            text: 1,
+            position: at,
+            detail: 0,
+        }),
+    }
+}
