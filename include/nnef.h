@@ -59,9 +59,9 @@ extern "C" {
  * texts, and rounded up.
  */
 #define NNEF_TOKENS_STACK 53248
-#define NNEF_DECLARATIONS_STACK 8192
-#define NNEF_CHECK_STACK 8192
-#define NNEF_CANON_STACK 8192
+#define NNEF_DECLARATIONS_STACK 24576
+#define NNEF_CHECK_STACK 24576
+#define NNEF_CANON_STACK 24576
 
 /* What an operation answers with. */
 typedef struct nnef_answer {

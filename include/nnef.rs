@@ -33,9 +33,9 @@ pub const WIRE_WORDS: usize = 2_048;
 
 // Bytes of stack that a call takes at most.
 pub const TOKENS_STACK: usize = 53_248;
-pub const DECLARATIONS_STACK: usize = 8_192;
-pub const CHECK_STACK: usize = 8_192;
-pub const CANON_STACK: usize = 8_192;
+pub const DECLARATIONS_STACK: usize = 24_576;
+pub const CHECK_STACK: usize = 24_576;
+pub const CANON_STACK: usize = 24_576;
 
 // Codes.
 pub const ACCEPTED: u32 = 0;

@@ -15,7 +15,7 @@ use Rattle.lexis.specs.Words.{sameBytes}
 use Rattle.lexis.specs.Lexer.{Token}
 use Rattle.syntax.specs.declared.Parsed.{Parsed}
 use Rattle.syntax.specs.declared.Parsed.the-variants.{Done}
-use Rattle.syntax.specs.Symbol.{equal, rightRound}
+use Rattle.lexis.specs.Symbol.{equal, rightRound}
 use Rattle.syntax.specs.Tree.{Value, Param, Arg}
 use Rattle.syntax.specs.Tree.Arg.{positional, named}
 use Rattle.syntax.specs.Grammar.{literals, both}

@@ -9,7 +9,7 @@ use Rattle.lexis.specs.Ascii.{ascii}
 use Rattle.lexis.specs.Kind as Kind
 use Rattle.lexis.specs.Sizes.{maxBrackets}
 use Rattle.lexis.specs.Lexer.{Token}
-use Rattle.syntax.specs.Symbol.{rightRound}
+use Rattle.lexis.specs.Symbol.{rightRound}
 use Rattle.syntax.specs.Tree.{Param, Arg}
 use Rattle.syntax.specs.Parser.{row, plain, commas, param}
 use Rattle.syntax.specs.Parser.{argument as anArgument}

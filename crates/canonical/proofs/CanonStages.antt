@@ -9,7 +9,7 @@ use native.Mathlib.Omega.{arith}
 use borrow.Author.Tests.{le-leb, lt-leb, leb-true, leb-false, ne-eqb}
 use lib.Dec.{leb, eqb}
 use lib.ListN.{length, take, drop, replicate}
-use Rattle.lexis.specs.Sizes.{maxText, maxTokens, maxBrackets, scratchStart, workWords}
+use Rattle.lexis.specs.Sizes.{maxText, maxTokens, maxBrackets, workWords}
 use Rattle.lexis.specs.Code as L
 use Rattle.lexis.specs.Answer.{answer}
 use Rattle.lexis.specs.declared.Answer.{Answer}
@@ -110,7 +110,7 @@ module _ {ps : List Piece} {out out' : List ℕ} {s : Place} (w : PutsAll ps out
 
 -- ---- a document that has passed
 
-module _ {list doc work₁ work₂ : List ℕ} {n k m : ℕ} (b : BothPassed list doc work₁ work₂ n k m) where
+module _ {list doc work₁ work₂ names : List ℕ} {n k m : ℕ} (b : BothPassed list doc work₁ work₂ names n k m) where
   abbrev headers : List Header
   headers = b .first .headers
 
@@ -134,14 +134,14 @@ module _ {list doc work₁ work₂ : List ℕ} {n k m : ℕ} (b : BothPassed lis
       ∙ ap (λ (o : Option Plan). writingStages (laidOut headers o) out) (plan .1)
 
   -- what putting it asks and ensures
-  abbrev names : List ℕ
-  names = take (scratchStart + k - scratchStart) (drop scratchStart work₁)
+  abbrev directory : List ℕ
+  directory = take (k - 0) names
 
-  pub put-asked : Holds list work₁ n × (Ranged list work₁ n × (NamePlaces n names × (Holds doc work₂ m × Ranged doc work₂ m)))
+  pub put-asked : Holds list work₁ n × (Ranged list work₁ n × (NamePlaces n directory × (Holds doc work₂ m × Ranged doc work₂ m)))
   put-asked = let l = b .first in let d = b .second in (l .table, (ranged list work₁ n (l .lexed), (part-places l, (d .table, ranged doc work₂ m (d .lexed)))))
 
   pub put-ensured : {out out' : List ℕ} {s : Place}
-      → ((hs : List Header) (d : Document) (p : Plan) → Heads list work₁ n maxBrackets names hs → parseDocument (toks doc work₂ m 0) ≡ ok d [] → documentFaults hs d ≡ [] → planOf hs d ≡ some p → PutsAll (documentPieces hs p) out out' s)
+      → ((hs : List Header) (d : Document) (p : Plan) → Heads list work₁ n maxBrackets directory hs → parseDocument (toks doc work₂ m 0) ≡ ok d [] → documentFaults hs d ≡ [] → planOf hs d ≡ some p → PutsAll (documentPieces hs p) out out' s)
       → PutsAll laid out out' s
   put-ensured f = f headers tree (plan .0) (part-heads (b .first)) (b .second .parsed) faultless (plan .1)
 

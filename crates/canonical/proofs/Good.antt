@@ -21,7 +21,7 @@ use Rattle.lexis.specs.Lexeme.{numberLexeme, wordLexeme, stringLexeme, isPair, 
 use Rattle.lexis.specs.Lexer.{Token, Lexed, accepted, refused, prepend, admit, lexFrom, lex}
 use Rattle.lexis.specs.declared.token.Lexeme.{Lexeme}
 use Rattle.lexis.specs.declared.token.Lexeme.the-variants as L
-use Rattle.syntax.specs.Symbol.{symOf, symbolOf, keywordSymbol, aName}
+use Rattle.lexis.specs.Symbol.{symOf, symbolOf, terminals, symbolIn, keywordSymbol, aName}
 use Rattle.lists.specs.Reading.{isNumber, contentOf}
 use Rattle.canonical.specs.Spelling.{holdsSingle, quoteFor}
 use Rattle.canonical.proofs.Runs.{span-all}
@@ -86,7 +86,7 @@ word-kind w =
 
 -- no keyword is taken for a name
 pub keyword-not : (w : List ℕ) → keywordSymbol w ≡ aName → ⊥
-unfolding keywordSymbol
+unfolding terminals symbolIn
 keyword-not w =
     neither aName (sameBytes w (ascii "version")) _ _ (λ _. omega arith)
     (neither aName (sameBytes w (ascii "graph")) _ _ (λ _. omega arith)

@@ -12,7 +12,7 @@ use Rattle.lexis.specs.Sizes.{maxExtent}
 use Rattle.lexis.specs.Kind as Kind
 use Rattle.lexis.specs.Number.{valueFrom, partsOf, reducedOf}
 use Rattle.lexis.specs.Lexer.{Token}
-use Rattle.syntax.specs.Symbol.{extentWord}
+use Rattle.lexis.specs.Symbol.{extentWord}
 use Rattle.syntax.specs.Tree.{Ty}
 use Rattle.syntax.specs.Grammar.{IsTypeName}
 use Rattle.syntax.specs.Grammar.IsTypeName.{is-tensor, is-extent, is-scalar, is-logical, is-string}

@@ -6,7 +6,7 @@ use native.Mathlib.Omega.{arith}
 use Rattle.lexis.specs.Ascii.{ascii}
 use Rattle.lexis.specs.Lexer.{Token}
 use Rattle.lexis.specs.Kind as Kind
-use Rattle.syntax.specs.Symbol.{aName, comma, rightRound}
+use Rattle.lexis.specs.Symbol.{aName, comma, rightRound}
 use Rattle.syntax.specs.Parser.{expect, row, plain, commas}
 use Rattle.syntax.specs.Parser.Parse.{ok}
 use Rattle.syntax.specs.Table.{tokenAt, toks}

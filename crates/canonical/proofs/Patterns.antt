@@ -20,8 +20,8 @@ use Rattle.lexis.specs.Kind as Kind
 use Rattle.lexis.specs.Lexer.{Token}
 use Rattle.syntax.specs.declared.Parsed.{Parsed}
 use Rattle.syntax.specs.declared.Parsed.the-variants.{Done, Fault}
-use Rattle.syntax.specs.Symbol.{symOf, leftRound, rightRound, leftSquare, rightSquare, comma, equal}
-use Rattle.syntax.specs.Symbol.{aName as nameSymbol}
+use Rattle.lexis.specs.Symbol.{symOf, leftRound, rightRound, leftSquare, rightSquare, comma, equal}
+use Rattle.lexis.specs.Symbol.{aName as nameSymbol}
 use Rattle.syntax.specs.Tree.{Value, Values, Ty, Tys}
 use Rattle.syntax.specs.Tree.Value.{name, literal, array, tuple}
 use Rattle.syntax.specs.Tree.Values.{none, more}

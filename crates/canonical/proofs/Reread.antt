@@ -14,7 +14,7 @@ use Rattle.lexis.specs.Ascii.{ascii}
 use Rattle.lexis.specs.Sizes.{maxExtent}
 use Rattle.lexis.specs.Kind as Kind
 use Rattle.lexis.specs.Lexer.{Token}
-use Rattle.syntax.specs.Symbol.{symOf, symbolOf, isLiteral}
+use Rattle.lexis.specs.Symbol.{symOf, symbolOf, isLiteral}
 use Rattle.syntax.specs.Tree.{Value, Values, Ty, Tys}
 use Rattle.syntax.specs.Tree.Value.{name, literal, array, tuple}
 use Rattle.syntax.specs.Tree.Values.{none, more}

@@ -11,7 +11,7 @@ use Rattle.lexis.specs.Sizes.{maxBrackets}
 use Rattle.lexis.specs.Kind as Kind
 use Rattle.lexis.specs.Words.{sameBytes}
 use Rattle.lexis.specs.Lexer.{Token}
-use Rattle.syntax.specs.Symbol.{symOf, symbolOf, keywordSymbol, rightRound, comma, equal}
+use Rattle.lexis.specs.Symbol.{symOf, symbolOf, terminals, symbolIn, rightRound, comma, equal}
 use Rattle.syntax.specs.Tree.{Value, Values, Ty, Param, Header, Call, Document}
 use Rattle.syntax.specs.Tree.Value.{tuple}
 use Rattle.syntax.specs.Tree.Values.{more}
@@ -196,7 +196,7 @@ body-back {hs} (more-calls {cs = cs} f g) at r =
 
 pub document-back : (hs : List Header) (p : Plan) → PlanFits hs p
     → (d : Document) × (IsDocument maxBrackets (tokensAt 0 (documentPieces hs p)) d × CanonDocument hs p d)
-unfolding documentPieces tokensAt symOf symbolOf keywordSymbol sameBytes
+unfolding documentPieces tokensAt symOf symbolOf terminals symbolIn sameBytes
 document-back hs p f =
     let number = lined Kind.real (ascii "1.0") in
     let n = namePiece (p .graph) in

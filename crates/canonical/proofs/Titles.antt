@@ -4,7 +4,7 @@ use mathlib.Core.List.{List, []}
 use Prim.Native.Nat.{ℕ, _<_}
 use Rattle.lexis.specs.Sizes.{maxBrackets}
 use Rattle.lexis.specs.Lexer.{Token}
-use Rattle.syntax.specs.Symbol.{aName, rightRound}
+use Rattle.lexis.specs.Symbol.{aName, rightRound}
 use Rattle.syntax.specs.Tree.{Document}
 use Rattle.syntax.specs.Grammar.{IsDocument}
 use Rattle.syntax.specs.Grammar.IsDocument.{a-document}

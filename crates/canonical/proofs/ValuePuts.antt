@@ -10,7 +10,7 @@ use lib.ListN.{getD}
 use Rattle.lexis.specs.Ascii.{ascii}
 use Rattle.lexis.specs.Kind as Kind
 use Rattle.lexis.specs.Lexer.{Token}
-use Rattle.syntax.specs.Symbol.{leftRound, rightRound, leftSquare, rightSquare, comma, aName}
+use Rattle.lexis.specs.Symbol.{leftRound, rightRound, leftSquare, rightSquare, comma, aName}
 use Rattle.syntax.specs.Tree.{Value, Values, Ty, Tys}
 use Rattle.syntax.specs.Tree.Values.{none, more}
 use Rattle.syntax.specs.Tree.Tys.{no-type}

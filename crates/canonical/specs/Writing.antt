@@ -16,7 +16,7 @@ use Rattle.lexis.specs.Words.{sameBytes}
 use Rattle.lexis.specs.Kind as Kind
 use Rattle.lexis.specs.Number.{partsOf, inRange}
 use Rattle.lexis.specs.Lexer.{Token}
-use Rattle.syntax.specs.Symbol.{symOf, leftRound, rightRound}
+use Rattle.lexis.specs.Symbol.{symOf, leftRound, rightRound}
 use Rattle.syntax.specs.Tree.{Value, Values, Ty, Tys, Param, Arg}
 use Rattle.syntax.specs.Tree.Arg.{positional, named}
 use Rattle.syntax.specs.Grammar.{Leaves, names, both, Spells, Items}

@@ -13,7 +13,7 @@ ghost use Rattle.lexis.specs.Ascii.{ascii};
 ghost use Rattle.lexis.specs.Kind as Kind;
 ghost use Rattle.lexis.specs.Lexer.{Token};
 ghost use Rattle.lexis.specs.Sizes.{maxBrackets};
-ghost use Rattle.syntax.specs.Symbol.{aName as nameSymbol, rightRound};
+ghost use Rattle.lexis.specs.Symbol.{aName as nameSymbol, rightRound};
 ghost use Rattle.syntax.specs.Tree.{Header, Document};
 ghost use Rattle.syntax.specs.Parser.{expect, row, plain, commas, parseDocument};
 ghost use Rattle.syntax.specs.Parser.Parse.{ok};

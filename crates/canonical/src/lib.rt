@@ -68,18 +68,19 @@ fn write(
     list: &[u8],
     work1: &[u32],
     n: usize,
+    names: &[u32],
     k: usize,
     doc: &[u8],
     work2: &[u32],
     m: usize,
     out: &mut [u8],
 ) -> Answer
-    requires { ⌜ BothPassed (now list) (now doc) (now work1) (now work2) n k m ⌝ }
-    requires { ⌜ workWords ≤ length (now work1) ⌝ }
+    requires { ⌜ BothPassed (now list) (now doc) (now work1) (now work2) (now names) n k m ⌝ }
+    requires { ⌜ maxTokens ≤ length (now names) ⌝ }
     ensures { λ r. ⌜ Wrote (textStages (now (list .entry)) (now (doc .entry)) (length (now (out .entry)))) (now (out .entry)) (now (out .exit)) r ⌝ }
 {
-    let names = &work1[Limits::SCRATCH_START..Limits::SCRATCH_START + k];
-    let size = put_document(&mut out[0..0], list, work1, n, names, doc, work2, m);
+    let directory = &names[0..k];
+    let size = put_document(&mut out[0..0], list, work1, n, directory, doc, work2, m);
     if !keeps_limits(size) {
         return no_text(Code::OVER_LIMITS, 0);
     }
@@ -87,7 +88,7 @@ fn write(
     if out.len() < size.bytes {
         return no_text(Code::SHORT_OUTPUT, detail);
     }
-    put_document(out, list, work1, n, names, doc, work2, m);
+    put_document(out, list, work1, n, directory, doc, work2, m);
     no_text(lexis::code::Code::ACCEPTED, detail)
 }
 
@@ -105,8 +106,9 @@ fn text_stages(
     ensures { λ _. ⌜ length (now (work1 .exit)) ≡ length (now (work1 .entry)) ⌝ }
     ensures { λ _. ⌜ length (now (work2 .exit)) ≡ length (now (work2 .entry)) ⌝ }
 {
-    match both_stages(list, doc, &mut *work1, &mut *work2) {
-        Staged::Passed(n, k, m) => write(list, work1, n, k, doc, work2, m, out),
+    let mut names = [0u32; Limits::TOKENS];
+    match both_stages(list, doc, &mut *work1, &mut *work2, &mut names) {
+        Staged::Passed(n, k, m) => write(list, work1, n, &names, k, doc, work2, m, out),
         Staged::Stopped(r) => r,
     }
 }

@@ -76,7 +76,7 @@ fn syntax_case(text: &[u8], which: Syntax) {
         return;
     }
     let classes = lexis::class::CLASSES;
-    let mut work = [0u32; Limits::TABLE_WORDS];
+    let mut work = [0u32; Limits::WORK_WORDS];
     match syntax::read(&classes, text, &mut work, which) {
         Counted::Tokens(n) => print_answer(lexis::Answer {
             code: 0,

@@ -7,7 +7,7 @@ use Prim.Native.Nat.{ℕ, zero, suc, _+_, _<_}
 use native.Mathlib.Omega.{arith}
 use lib.Dec.{eqb}
 use Rattle.lexis.specs.Lexer.{Token}
-use Rattle.syntax.specs.Symbol.{symOf, isLiteral, leftRound, leftSquare, equal, aName}
+use Rattle.lexis.specs.Symbol.{symOf, isLiteral, leftRound, leftSquare, equal, aName}
 use Rattle.syntax.specs.Tree.{Value, Values, Arg}
 use Rattle.syntax.specs.Tree.Value.{name, literal, array, tuple}
 use Rattle.syntax.specs.Tree.Arg.{positional, named}

@@ -13,7 +13,7 @@ use Rattle.lexis.specs.Lexer.{Token}
 use Rattle.syntax.specs.Tree.{Value, Ty, Param, Arg}
 use Rattle.syntax.specs.Tree.Arg.{positional, named}
 use Rattle.syntax.specs.Grammar.{both}
-use Rattle.syntax.specs.Symbol.{rightRound}
+use Rattle.lexis.specs.Symbol.{rightRound}
 use Rattle.syntax.specs.Parser.{plain, commas, row, value, type, argument}
 use Rattle.syntax.specs.Parser.Parse.{ok}
 use Rattle.syntax.specs.Table.{tokenAt, toks}

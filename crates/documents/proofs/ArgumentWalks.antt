@@ -10,7 +10,7 @@ use native.Mathlib.Omega.{arith}
 use lib.ListN.{length, length-append, length-map}
 use Rattle.lexis.specs.Sizes.{maxBrackets, maxParameters}
 use Rattle.lexis.specs.Lexer.{Token}
-use Rattle.syntax.specs.Symbol.{rightRound}
+use Rattle.lexis.specs.Symbol.{rightRound}
 use Rattle.syntax.specs.Tree.{Param}
 use Rattle.syntax.specs.Parser.{Reader, plain, row, commas, param}
 use Rattle.syntax.specs.Parser.Parse.{ok}

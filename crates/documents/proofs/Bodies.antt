@@ -8,7 +8,7 @@ use lib.Dec.{eqb}
 use lib.ListN.{length}
 use borrow.Author.Tests.{eqb-true}
 use Rattle.lexis.specs.Lexer.{Token}
-use Rattle.syntax.specs.Symbol.{symOf, rightCurly}
+use Rattle.lexis.specs.Symbol.{symOf, rightCurly}
 use Rattle.syntax.specs.Tree.{Call}
 use Rattle.syntax.specs.Parser.{mapped, plain, follow, onward, rowF, row, call}
 use Rattle.syntax.specs.Parser.Parse.{ok}

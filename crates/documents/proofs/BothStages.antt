@@ -1,6 +1,7 @@
 -- From the bytes of a document under a list that has passed to what the stages of both texts come to. Relies on `Acceptance` for what
 -- passes, on `syntax` for the faults of bytes and syntax.
 use mathlib.Core.Path.{_≡_, refl, sym, ap, ap₂, subst, _∙_}
+use mathlib.Core.Bool.{true}
 use mathlib.Core.List.{List, []}
 use mathlib.Core.Option.{some}
 use mathlib.Core.Option.{none as nothing}
@@ -9,7 +10,7 @@ use native.Mathlib.Nat.{zero-add}
 use native.Mathlib.Omega.{arith}
 use lib.ListN.{length, take, drop}
 use borrow.Author.Tests.{ne-eqb}
-use Rattle.lexis.specs.Sizes.{maxTokens, recordWords, scratchStart, maxBrackets}
+use Rattle.lexis.specs.Sizes.{maxTokens, recordWords, maxBrackets, workWords}
 use Rattle.lexis.specs.Lexer.{Token, Lexed, accepted, refused, lex}
 use Rattle.lexis.specs.Answer.{answer}
 use Rattle.lexis.specs.Work.{Recorded, Room}
@@ -30,7 +31,7 @@ use Rattle.lists.specs.Best.{faultOf, meant}
 use Rattle.lists.specs.ListRules.{listFaults}
 use Rattle.lists.specs.Lists.{Heads, NamePlaces}
 use Rattle.lists.specs.Answer.{Stage, pass, stop, andThen, bytesStage, syntaxStage, rulesStage, listStages}
-use Rattle.lists.specs.Stages.{directoryOf, ListPassed}
+use Rattle.lists.specs.Stages.{ListPassed}
 use Rattle.lists.specs.declared.best.Best.{Best}
 use Rattle.lists.proofs.Acceptance.{passed}
 use Rattle.documents.specs.DocumentRules.{documentFaults}
@@ -58,8 +59,8 @@ document-clean hs text d e = ap first (passed 2 parseDocument (documentFaults hs
 
 -- ---- bytes and syntax of the document
 
-module _ (text before after : List ℕ) (n : ℕ) (small : n ≤ maxTokens) where
-  read-by : (l : Lexed) → lex text ≡ l → C.Tokens n ≡ readAfter S.Document (length text) l → Recorded l before after → n * recordWords ≤ length before → DocumentRead text after n
+module _ (text before after : List ℕ) (n : ℕ) (small : n ≤ maxTokens) (large : workWords ≤ length before) where
+  read-by : (l : Lexed) → lex text ≡ l → C.Tokens n ≡ readAfter S.Document (length text) l → Recorded true l before after → n * recordWords ≤ length before → DocumentRead text after n
   unfolding documentStages
   read-by (refused c p) e h w r = let z : _≡_ {A = ℕ} 0 1 = cc in absurd (omega arith)
   read-by (accepted ts) e h w r = go (parseDocument ts) refl h
@@ -68,7 +69,7 @@ module _ (text before after : List ℕ) (n : ℕ) (small : n ≤ maxTokens) wher
       go (bad c us) q k = let z : _≡_ {A = ℕ} 0 1 = cc in absurd (omega arith)
       go (ok d us) q k =
           let m : n ≡ length ts = cc in
-          let g = got text before after (C.Tokens n) n (ap C.Tokens (m ∙ sym (zero-add (length ts))) ∙ ap LA.counted (sym e)) (subst (λ (l : Lexed). Recorded l before after) (sym e) w) (small, r) refl in
+          let g = got text before after (C.Tokens n) n (ap C.Tokens (m ∙ sym (zero-add (length ts))) ∙ ap LA.counted (sym e)) (subst (λ (l : Lexed). Recorded true l before after) (sym e) w) (small, r) large refl in
           let same : g .tokens ≡ ts = let y = sym (g .is) ∙ e in cc in
           let t : toks text after n 0 ≡ ts = g .decoded ∙ same in
           let none : us ≡ [] = document-all-read maxBrackets ts d us q in
@@ -84,7 +85,7 @@ module _ (text before after : List ℕ) (n : ℕ) (small : n ≤ maxTokens) wher
                 ∙ ap (λ (x : Parse Document). andThen (syntaxStage 2 text x) (λ y. rulesStage 2 y (first (documentFaults hs y)))) q;
           }
 
-  pub read-document : {x : Counted} → x ≡ readOf S.Document text → x ≡ C.Tokens n → Recorded (lex text) before after → Room x (length before) → DocumentRead text after n
+  pub read-document : {x : Counted} → x ≡ readOf S.Document text → x ≡ C.Tokens n → Recorded true (lex text) before after → Room x (length before) → DocumentRead text after n
   read-document {x} h e w r = read-by (lex text) refl (sym e ∙ h) w (subst (λ (y : Counted). Room y (length before)) e r .1)
 
 -- a fault of the bytes or the syntax stops the stages
@@ -101,25 +102,25 @@ document-stops hs text {c} {p} h e = go (lex text) (sym e ∙ h)
     go (refused d q) k = let a : d ≡ c = cc in let b : q ≡ p = cc in ap₂ (λ (x y : ℕ). stop (answer x 2 y 0)) a b
     go (accepted ts) k = parses ts (parseDocument ts) k
 
--- ---- the directory as it is lent: a part of the work area
+-- ---- the directory as it is lent: its words
 
 abbrev namesPart : List ℕ → ℕ → List ℕ
-namesPart work k = take (scratchStart + k - scratchStart) (drop scratchStart work)
+namesPart names k = take (k - 0) names
 
-part-is : (work : List ℕ) (k : ℕ) → directoryOf work k ≡ namesPart work k
-part-is work k = let e : k ≡ scratchStart + k - scratchStart = omega arith in ap (λ (m : ℕ). take m (drop scratchStart work)) e
+part-is : (names : List ℕ) (k : ℕ) → take k names ≡ namesPart names k
+part-is names k = let e : k ≡ k - 0 = omega arith in ap (λ (m : ℕ). take m names) e
 
-module _ {text work : List ℕ} {n k : ℕ} (p : ListPassed text work n k) where
-  pub part-heads : Heads text work n maxBrackets (namesPart work k) (p .headers)
-  part-heads = subst (λ (x : List ℕ). Heads text work n maxBrackets x (p .headers)) (part-is work k) (p .heads)
+module _ {text work names : List ℕ} {n k : ℕ} (p : ListPassed text work names n k) where
+  pub part-heads : Heads text work n maxBrackets (namesPart names k) (p .headers)
+  part-heads = subst (λ (x : List ℕ). Heads text work n maxBrackets x (p .headers)) (part-is names k) (p .heads)
 
-  pub part-places : NamePlaces n (namesPart work k)
-  part-places = subst (λ (x : List ℕ). NamePlaces n x) (part-is work k) (p .places)
+  pub part-places : NamePlaces n (namesPart names k)
+  part-places = subst (λ (x : List ℕ). NamePlaces n x) (part-is names k) (p .places)
 
-  pub part-open : Opened n (namesPart work k)
+  pub part-open : Opened n (namesPart names k)
   part-open = heads-open text work n maxBrackets part-places part-heads
 
-  pub part-few : length (namesPart work k) ≤ maxTokens
+  pub part-few : length (namesPart names k) ≤ maxTokens
   part-few = let e = sym (heads-count part-heads) ∙ p .count in omega (arith, e, p .few, p .small)
 
 -- ---- what the stages of both texts come to
@@ -137,8 +138,8 @@ module _ (list doc : List ℕ) where
       ∙ ap (λ (s : Stage Document). andThen s (λ d. joined hs d)) e
 
 -- the rules of the document: a fault, or none
-module _ {list doc work₁ work₂ : List ℕ} {n k m : ℕ} (l : ListPassed list work₁ n k) (r : DocumentRead doc work₂ m) (best : Best)
-    (rules : (hs : List Header) (d : Document) → Heads list work₁ n maxBrackets (namesPart work₁ k) hs → first (listFaults hs) ≡ nothing → parseDocument (toks doc work₂ m 0) ≡ ok d [] → meant best ≡ first (documentFaults hs d)) where
+module _ {list doc work₁ work₂ names : List ℕ} {n k m : ℕ} (l : ListPassed list work₁ names n k) (r : DocumentRead doc work₂ m) (best : Best)
+    (rules : (hs : List Header) (d : Document) → Heads list work₁ n maxBrackets (namesPart names k) hs → first (listFaults hs) ≡ nothing → parseDocument (toks doc work₂ m 0) ≡ ok d [] → meant best ≡ first (documentFaults hs d)) where
   found-is : meant best ≡ first (documentFaults (l .headers) (r .document))
   found-is = rules (l .headers) (r .document) (part-heads l) (list-clean list (l .headers) (l .stages)) (r .parsed)
 
@@ -148,7 +149,7 @@ module _ {list doc work₁ work₂ : List ℕ} {n k m : ℕ} (l : ListPassed lis
       let q : some (faultOf best) ≡ first (documentFaults (l .headers) (r .document)) = rw (ne-eqb (best .code) 0 z) at found-is in
       both-under list doc (l .stages) (r .stages (l .headers) ∙ ap (rulesStage 2 (r .document)) (sym q))
 
-  pub rules-pass : best .code ≡ 0 → BothPassed list doc work₁ work₂ n k m
+  pub rules-pass : best .code ≡ 0 → BothPassed list doc work₁ work₂ names n k m
   unfolding meant
   rules-pass z =
       let q : nothing ≡ first (documentFaults (l .headers) (r .document)) = rw z at found-is in
@@ -164,8 +165,9 @@ module _ {list doc work₁ work₂ : List ℕ} {n k m : ℕ} (l : ListPassed lis
         };
       }
 
-pub both-passed : {list doc work₁ work₂ : List ℕ} {x : Staged} {n k m : ℕ} → BothDone list doc work₁ work₂ x → x ≡ Passed n k m → BothPassed list doc work₁ work₂ n k m
-both-passed {list} {doc} {work₁} {work₂} d e = subst (BothDone list doc work₁ work₂) e d
+pub both-passed : {list doc work₁ work₂ names : List ℕ} {x : Staged} {n k m : ℕ} → BothDone list doc work₁ work₂ names x → x ≡ Passed n k m
+    → BothPassed list doc work₁ work₂ names n k m
+both-passed {list} {doc} {work₁} {work₂} {names} d e = subst (BothDone list doc work₁ work₂ names) e d
 
-pub both-stopped : (list doc work₁ work₂ : List ℕ) (x : Staged) {r : Answer} → BothDone list doc work₁ work₂ x → x ≡ Stopped r → bothStages list doc ≡ stop r
-both-stopped list doc work₁ work₂ x d e = subst (BothDone list doc work₁ work₂) e d
+pub both-stopped : (list doc work₁ work₂ names : List ℕ) (x : Staged) {r : Answer} → BothDone list doc work₁ work₂ names x → x ≡ Stopped r → bothStages list doc ≡ stop r
+both-stopped list doc work₁ work₂ names x d e = subst (BothDone list doc work₁ work₂ names) e d

@@ -9,7 +9,7 @@ use lib.Dec.{eqb}
 use lib.ListN.{length}
 use borrow.Author.Tests.{eqb-true}
 use Rattle.lexis.specs.Lexer.{Token}
-use Rattle.syntax.specs.Symbol.{symOf, comma}
+use Rattle.lexis.specs.Symbol.{symOf, comma}
 use Rattle.syntax.specs.Grammar.{Separated}
 use Rattle.syntax.specs.Grammar.Separated.{last, next}
 use Rattle.syntax.specs.Parser.{Parse, Reader, then, mapped, expect, plain, follow, onward, rowF, row}

@@ -6,7 +6,7 @@ use mathlib.Core.List.{List, [], _∷_, _++_}
 use Prim.Native.Nat.{ℕ, _+_, _-_, _≤_, _<_, min}
 use native.Mathlib.Omega.{arith}
 use Rattle.lexis.specs.Lexer.{Token}
-use Rattle.syntax.specs.Symbol.{symOf, leftRound, rightRound, equal, semicolon, aName}
+use Rattle.lexis.specs.Symbol.{symOf, leftRound, rightRound, equal, semicolon, aName}
 use Rattle.syntax.specs.Tree.{Arg, Call}
 use Rattle.syntax.specs.Grammar.{Separated, IsArg, IsLeft}
 use Rattle.syntax.specs.Grammar.Separated.{last, next}

@@ -9,7 +9,7 @@ use Prim.Native.Nat.{ℕ, _+_, _-_, _<_, _≤_}
 use Rattle.lexis.specs.Sizes.{maxBrackets}
 use Rattle.lexis.specs.Lexer.{Token}
 use Rattle.syntax.specs.Tree.{Value, Header, Call}
-use Rattle.syntax.specs.Symbol.{aName, leftRound, rightRound}
+use Rattle.lexis.specs.Symbol.{aName, leftRound, rightRound}
 use Rattle.syntax.specs.Parser.{expect, plain, row, argument, left, call}
 use Rattle.syntax.specs.Parser.Parse.{ok}
 use Rattle.syntax.specs.Parser.Row.{commas}

@@ -34,7 +34,7 @@ module _ (list doc calls wires : List ℕ) where
   unfolding callsAfter wiresAfter
   ended-stopped e = ended-as e (record { answered = refl; called = refl; wired = refl })
 
-  pub ended-passed : {work₁ work₂ calls' wires' : List ℕ} {n k m r : ℕ} (b : BothPassed list doc work₁ work₂ n k m) → let d = b .second .document in
+  pub ended-passed : {work₁ work₂ names calls' wires' : List ℕ} {n k m r : ℕ} (b : BothPassed list doc work₁ work₂ names n k m) → let d = b .second .document in
       calls' ≡ sets calls 0 (callTable (b .first .headers) d) → wires' ≡ sets wires 0 (wireTable d) → r ≡ length (d .calls)
       → Ended (bothStages list doc) calls calls' wires wires' (answer 0 0 0 r)
   unfolding callsAfter wiresAfter

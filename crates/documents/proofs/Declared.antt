@@ -11,7 +11,7 @@ use lib.ListN.{length, getD, length-map}
 use borrow.Author.Tests.{ne-eqb}
 use Rattle.lexis.specs.Words.{sameBytes}
 use Rattle.lexis.specs.Lexer.{Token}
-use Rattle.syntax.specs.Symbol.{symOf, leftRound, rightRound, arrow}
+use Rattle.lexis.specs.Symbol.{symOf, leftRound, rightRound, arrow}
 use Rattle.syntax.specs.Tree.{Param, Header}
 use Rattle.syntax.specs.Parser.{rest, plain, row, param, result, header}
 use Rattle.syntax.specs.Parser.Parse.{ok}

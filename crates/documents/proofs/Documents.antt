@@ -4,7 +4,7 @@ use mathlib.Core.List.{List, [], _∷_, _++_}
 use Prim.Native.Nat.{ℕ, _+_, _-_, _≤_, min}
 use native.Mathlib.Omega.{arith}
 use Rattle.lexis.specs.Lexer.{Token}
-use Rattle.syntax.specs.Symbol.{symOf, leftRound, rightRound, leftCurly, rightCurly, arrow, aName, aNumber, version, graph}
+use Rattle.lexis.specs.Symbol.{symOf, leftRound, rightRound, leftCurly, rightCurly, arrow, aName, aNumber, version, graph}
 use Rattle.syntax.specs.Tree.{Call, Document}
 use Rattle.syntax.specs.Grammar.{Separated}
 use Rattle.syntax.specs.Parser.{expect, row, plain, call, atEnd, document}

@@ -10,7 +10,7 @@ use native.Mathlib.Omega.{arith}
 use lib.Dec.{eqb}
 use borrow.Author.Tests.{eqb-true, eq-eqb, ne-eqb}
 use Rattle.lexis.specs.Lexer.{Token}
-use Rattle.syntax.specs.Symbol.{symOf, isLiteral, rightRound, equal, aName, aNumber, aLiteral}
+use Rattle.lexis.specs.Symbol.{symOf, isLiteral, rightRound, equal, aName, aNumber, aLiteral}
 use Rattle.syntax.specs.Tree.{Value, Values, Arg}
 use Rattle.syntax.specs.Grammar.{Separated, Leaves, Spells, Items, IsArg, IsLeft}
 use Rattle.syntax.specs.Grammar.Separated.{last, next}

@@ -14,7 +14,7 @@ use Rattle.lexis.specs.Sizes.{maxBrackets}
 use Rattle.lexis.specs.Lexer.{Token}
 use Rattle.syntax.specs.declared.Parsed.{Parsed}
 use Rattle.syntax.specs.declared.Parsed.the-variants.{Done, Fault}
-use Rattle.syntax.specs.Symbol.{comma, equal, rightRound}
+use Rattle.lexis.specs.Symbol.{comma, equal, rightRound}
 use Rattle.syntax.specs.Tree.{Value, Param}
 use Rattle.syntax.specs.Grammar.{literals}
 use Rattle.syntax.specs.Parser.{Parse, Reader, mapped, rest, begins, plain, row, commas, value, type, default, param}

@@ -9,7 +9,7 @@ use native.Mathlib.Omega.{arith}
 use lib.Dec.{eqb}
 use borrow.Author.Tests.{eqb-true}
 use Rattle.lexis.specs.Lexer.{Token}
-use Rattle.syntax.specs.Symbol.{symOf, colon, comma, aName}
+use Rattle.lexis.specs.Symbol.{symOf, colon, comma, aName}
 use Rattle.syntax.specs.Tree.{Value, Ty, Param}
 use Rattle.syntax.specs.Parser.{Parse, Reader, then, mapped, expect, follow, onward, plain, row, type, default, param, header}
 use Rattle.syntax.specs.Parser.Parse.{ok, bad}

@@ -7,7 +7,7 @@ use native.Mathlib.Omega.{arith}
 use lib.Dec.{eqb}
 use borrow.Author.Tests.{eq-eqb, ne-eqb}
 use Rattle.lexis.specs.Lexer.{Token}
-use Rattle.syntax.specs.Symbol.{symOf, leftRound, rightRound, leftSquare, rightSquare, semicolon}
+use Rattle.lexis.specs.Symbol.{symOf, leftRound, rightRound, leftSquare, rightSquare, semicolon}
 use Rattle.syntax.specs.Parser.{begins}
 use Rattle.syntax.specs.Table.{tokenAt, toks}
 use Rattle.syntax.specs.Inner.{lookahead}

@@ -10,7 +10,7 @@ use native.Mathlib.Omega.{arith}
 use lib.Dec.{eqb}
 use lib.ListN.{length}
 use Rattle.lexis.specs.Lexer.{Token}
-use Rattle.syntax.specs.Symbol.{aName, equal}
+use Rattle.lexis.specs.Symbol.{aName, equal}
 use Rattle.syntax.specs.Parser.{begins}
 use Rattle.syntax.specs.Table.{tokenAt, toks}
 use Rattle.syntax.specs.Inner.{lookahead}

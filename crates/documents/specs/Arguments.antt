@@ -11,7 +11,7 @@ use lib.ListN.{length}
 use Rattle.lexis.specs.Sizes.{maxBrackets, maxParameters}
 use Rattle.lexis.specs.Words.{sameBytes}
 use Rattle.lexis.specs.Lexer.{Token}
-use Rattle.syntax.specs.Symbol.{rightRound}
+use Rattle.lexis.specs.Symbol.{rightRound}
 use Rattle.syntax.specs.Parser.{Reader, plain, commas, row, type, param}
 use Rattle.syntax.specs.Parser.Parse.{ok}
 use Rattle.syntax.specs.Table.{tokenAt, toks}

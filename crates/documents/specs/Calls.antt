@@ -3,7 +3,7 @@ use mathlib.Core.Path.{_≡_}
 use mathlib.Core.List.{List, [], _∷_}
 use Prim.Native.Nat.{ℕ, _+_, _<_, _≤_}
 use Rattle.lexis.specs.Lexer.{Token}
-use Rattle.syntax.specs.Symbol.{rightRound}
+use Rattle.lexis.specs.Symbol.{rightRound}
 use Rattle.syntax.specs.Tree.{Arg, Call}
 use Rattle.syntax.specs.Parser.{plain, commas, row, argument, left, call}
 use Rattle.syntax.specs.Parser.Parse.{ok}

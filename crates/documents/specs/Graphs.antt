@@ -4,7 +4,7 @@ use mathlib.Core.List.{List, [], _∷_, _++_}
 use Prim.Native.Nat.{ℕ, _+_, _<_}
 use lib.ListN.{length}
 use Rattle.lexis.specs.Lexer.{Token}
-use Rattle.syntax.specs.Symbol.{rightRound, rightCurly, aName}
+use Rattle.lexis.specs.Symbol.{rightRound, rightCurly, aName}
 use Rattle.syntax.specs.Tree.{Call, Document}
 use Rattle.syntax.specs.Parser.{expect, row, plain, commas, closed, call}
 use Rattle.syntax.specs.Parser.Parse.{ok}

@@ -39,11 +39,11 @@ pub record DocumentPassed (hs : List Header) (text work : List ℕ) (n : ℕ) : 
 -- ---- both texts
 
 -- both have passed; the list has n tokens and k operations, the document m tokens
-pub record BothPassed (list doc work₁ work₂ : List ℕ) (n k m : ℕ) : Type 0 where
-  pub first : ListPassed list work₁ n k
+pub record BothPassed (list doc work₁ work₂ names : List ℕ) (n k m : ℕ) : Type 0 where
+  pub first : ListPassed list work₁ names n k
   pub second : DocumentPassed (first .headers) doc work₂ m
 
 -- what the stages come to
-abbrev pub BothDone : List ℕ → List ℕ → List ℕ → List ℕ → Staged → Type 0
-BothDone list doc work₁ work₂ (S.Passed n k m) = BothPassed list doc work₁ work₂ n k m
-BothDone list doc work₁ work₂ (S.Stopped r) = bothStages list doc ≡ stop r
+abbrev pub BothDone : List ℕ → List ℕ → List ℕ → List ℕ → List ℕ → Staged → Type 0
+BothDone list doc work₁ work₂ names (S.Passed n k m) = BothPassed list doc work₁ work₂ names n k m
+BothDone list doc work₁ work₂ names (S.Stopped r) = bothStages list doc ≡ stop r

@@ -23,7 +23,7 @@ ghost use Prim.Native.Nat.{ℕ, _+_, _<_, _≤_};
 ghost use lib.ListN.{length};
 ghost use Rattle.lexis.specs.Sizes.{maxBrackets, maxParameters};
 ghost use Rattle.lexis.specs.Lexer.{Token};
-ghost use Rattle.syntax.specs.Symbol.{rightRound};
+ghost use Rattle.lexis.specs.Symbol.{rightRound};
 ghost use Rattle.syntax.specs.Tree.{Value, Ty, Param, Arg};
 ghost use Rattle.syntax.specs.Tree.Arg.{positional, named};
 ghost use Rattle.syntax.specs.Grammar.{both};

@@ -1,12 +1,12 @@
 // Calls in a body: where the parts of a call stand.
-use syntax::symbol::Symbol;
+use lexis::symbol::Symbol;
 use syntax::symbol::symbol_at;
 ghost use mathlib.Core.Path.{_≡_};
 ghost use mathlib.Core.List.{List};
 ghost use Prim.Native.Nat.{ℕ, _+_, _≤_, _<_, min};
 ghost use mathlib.Core.Bool.{cond};
 ghost use Rattle.lexis.specs.Lexer.{Token};
-ghost use Rattle.syntax.specs.Symbol.{semicolon};
+ghost use Rattle.lexis.specs.Symbol.{semicolon};
 ghost use Rattle.syntax.specs.Tree.{Call};
 ghost use Rattle.syntax.specs.Parser.{begins, call};
 ghost use Rattle.syntax.specs.Parser.Parse.{ok};

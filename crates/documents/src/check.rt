@@ -14,7 +14,7 @@ ghost use Prim.Native.Nat.{_≤_};
 ghost use lib.Dec.{leb};
 ghost use lib.ListN.{length};
 ghost use Rattle.lexis.specs.Answer.{answer};
-ghost use Rattle.lexis.specs.Sizes.{maxText, maxCalls, workWords, callWords, wireWords};
+ghost use Rattle.lexis.specs.Sizes.{maxText, maxTokens, maxCalls, workWords, callWords, wireWords};
 ghost use Rattle.lists.specs.Answer.{workAfter};
 ghost use Rattle.documents.specs.Answer.{bothStages, checkRoom, checked, checkAnswer, callsAfter, wiresAfter};
 ghost use Rattle.documents.specs.Stages.{BothPassed};
@@ -53,6 +53,7 @@ fn write_tables(
     list: &[u8],
     work1: &[u32],
     n: usize,
+    names: &[u32],
     k: usize,
     doc: &[u8],
     work2: &[u32],
@@ -60,19 +61,18 @@ fn write_tables(
     calls: &mut [u32],
     wires: &mut [u32],
 ) -> usize
-    requires { ⌜ BothPassed (now list) (now doc) (now work1) (now work2) n k m ⌝ }
-    requires { ⌜ workWords ≤ length (now work1) ⌝ }
+    requires { ⌜ BothPassed (now list) (now doc) (now work1) (now work2) (now names) n k m ⌝ }
+    requires { ⌜ maxTokens ≤ length (now names) ⌝ }
     requires { ⌜ (callWords ≤ length (now calls)) × (wireWords ≤ length (now wires)) ⌝ }
     ensures { λ r. ⌜ r ≤ maxCalls ⌝ }
     ensures { λ r. ⌜ Ended (bothStages (now (list .entry)) (now (doc .entry))) (now (calls .entry)) (now (calls .exit)) (now (wires .entry)) (now (wires .exit)) (answer 0 0 0 r) ⌝ }
 {
-    let names = &work1[Limits::SCRATCH_START..Limits::SCRATCH_START + k];
     let graph = graph_at(doc, work2, m);
     let count = write_calls(
         list,
         work1,
         n,
-        names,
+        &names[0..k],
         doc,
         work2,
         m,
@@ -100,12 +100,13 @@ fn both_answer(
     ensures { λ _. ⌜ length (now (work1 .exit)) ≡ length (now (work1 .entry)) ⌝ }
     ensures { λ _. ⌜ length (now (work2 .exit)) ≡ length (now (work2 .entry)) ⌝ }
 {
-    match both_stages(list, doc, &mut *work1, &mut *work2) {
+    let mut names = [0u32; Limits::TOKENS];
+    match both_stages(list, doc, &mut *work1, &mut *work2, &mut names) {
         Staged::Passed(n, k, m) => Answer {
             code: Code::ACCEPTED,
             text: 0,
             position: 0,
-            detail: write_tables(list, work1, n, k, doc, work2, m, calls, wires) as u32,
+            detail: write_tables(list, work1, n, &names, k, doc, work2, m, calls, wires) as u32,
         },
         Staged::Stopped(r) => r,
     }

@@ -1,6 +1,6 @@
 // Where the parts of a document stand.
 use crate::calls::find;
-use syntax::symbol::Symbol;
+use lexis::symbol::Symbol;
 ghost use mathlib.Core.Path.{_≡_};
 ghost use mathlib.Core.List.{[]};
 ghost use Prim.Native.Nat.{ℕ, _-_, _≤_};

@@ -1,14 +1,13 @@
 // The parameters of an operation, read in the list's table from the place after the header's opening bracket: one that is sought, and
-// the mask of those without a default. The table is lent with the scratch words behind it, for an index; the search here is linear, and
-// no contract depends on that.
+// the mask of those without a default. The search here is linear, and no contract depends on that.
 use crate::mask::MASK_BITS;
 use crate::mask::extended;
 use lexis::limits::Limits;
+use lexis::symbol::Symbol;
 use lists::word::alike;
 use syntax::Parsed;
 use syntax::list::Item;
 use syntax::list::one;
-use syntax::symbol::Symbol;
 use syntax::symbol::symbol_at;
 use syntax::types::type_at;
 ghost use mathlib.Core.Path.{_≡_};
@@ -17,7 +16,7 @@ ghost use Prim.Native.Nat.{_≤_};
 ghost use lib.ListN.{length};
 ghost use Rattle.lexis.specs.Sizes.{maxBrackets, maxParameters};
 ghost use Rattle.lexis.specs.Lexer.{Token};
-ghost use Rattle.syntax.specs.Symbol.{rightRound};
+ghost use Rattle.lexis.specs.Symbol.{rightRound};
 ghost use Rattle.syntax.specs.Tree.{Param};
 ghost use Rattle.syntax.specs.Parser.{row, plain, commas, param};
 ghost use Rattle.syntax.specs.Parser.Parse.{ok};

@@ -3,7 +3,6 @@ use crate::usage::document_rules;
 use lexis::Answer;
 use lexis::Counted;
 use lexis::class::CLASSES;
-use lexis::limits::Limits;
 use lists::list::Listed;
 use lists::list::list_stages;
 use syntax::Syntax;
@@ -12,7 +11,7 @@ ghost use mathlib.Core.Path.{_≡_};
 ghost use Prim.Native.Nat.{_≤_};
 ghost use lib.ListN.{length};
 ghost use Rattle.lexis.specs.Bytes.{classTable};
-ghost use Rattle.lexis.specs.Sizes.{maxText, workWords};
+ghost use Rattle.lexis.specs.Sizes.{maxText, maxTokens, workWords};
 ghost use Rattle.lists.specs.Stages.{ListPassed};
 ghost use Rattle.documents.specs.Stages.{DocumentRead, BothDone};
 
@@ -22,23 +21,23 @@ pub enum Staged {
     Stopped(Answer),
 }
 
-// The rules of a document of m tokens under its list. Both tables are lent with the scratch words behind them.
+// The rules of a document of m tokens under its list.
 fn rules_stage(
     list: &[u8],
     work1: &[u32],
     n: usize,
+    names: &[u32],
     k: usize,
     doc: &[u8],
     work2: &[u32],
     m: usize,
 ) -> Staged
-    requires { ⌜ ListPassed (now list) (now work1) n k ⌝ }
+    requires { ⌜ ListPassed (now list) (now work1) (now names) n k ⌝ }
     requires { ⌜ DocumentRead (now doc) (now work2) m ⌝ }
-    requires { ⌜ workWords ≤ length (now work1) ⌝ }
-    ensures { λ r. ⌜ BothDone (now (list .entry)) (now (doc .entry)) (now (work1 .entry)) (now (work2 .entry)) r ⌝ }
+    requires { ⌜ maxTokens ≤ length (now names) ⌝ }
+    ensures { λ r. ⌜ BothDone (now (list .entry)) (now (doc .entry)) (now (work1 .entry)) (now (work2 .entry)) (now (names .entry)) r ⌝ }
 {
-    let names = &work1[Limits::SCRATCH_START..Limits::SCRATCH_START + k];
-    let best = document_rules(list, work1, n, names, doc, work2, m);
+    let best = document_rules(list, work1, n, &names[0..k], doc, work2, m);
     if best.code != 0 {
         return Staged::Stopped(Answer {
             code: best.code,
@@ -56,19 +55,20 @@ fn document_stages(
     list: &[u8],
     work1: &[u32],
     n: usize,
+    names: &[u32],
     k: usize,
     doc: &[u8],
     work2: &mut [u32],
 ) -> Staged
     requires { ⌜ now classes ≡ classTable ⌝ }
-    requires { ⌜ ListPassed (now list) (now work1) n k ⌝ }
+    requires { ⌜ ListPassed (now list) (now work1) (now names) n k ⌝ }
     requires { ⌜ length (now doc) ≤ maxText ⌝ }
-    requires { ⌜ (workWords ≤ length (now work1)) × (workWords ≤ length (now work2)) ⌝ }
-    ensures { λ r. ⌜ BothDone (now (list .entry)) (now (doc .entry)) (now (work1 .entry)) (now (work2 .exit)) r ⌝ }
+    requires { ⌜ (maxTokens ≤ length (now names)) × (workWords ≤ length (now work2)) ⌝ }
+    ensures { λ r. ⌜ BothDone (now (list .entry)) (now (doc .entry)) (now (work1 .entry)) (now (work2 .exit)) (now (names .entry)) r ⌝ }
     ensures { λ _. ⌜ length (now (work2 .exit)) ≡ length (now (work2 .entry)) ⌝ }
 {
     match read(classes, doc, &mut *work2, Syntax::Document) {
-        Counted::Tokens(m) => rules_stage(list, work1, n, k, doc, work2, m as usize),
+        Counted::Tokens(m) => rules_stage(list, work1, n, names, k, doc, work2, m as usize),
         Counted::Fault { code, at } => Staged::Stopped(Answer {
             code: code,
             text: 2,
@@ -78,17 +78,23 @@ fn document_stages(
     }
 }
 
-// All stages of both texts. Where they pass, the work areas hold both tables and the directory of the list; else anything.
-pub fn both_stages(list: &[u8], doc: &[u8], work1: &mut [u32], work2: &mut [u32]) -> Staged
+// All stages of both texts. Where they pass, the work areas hold both tables, and `names` begins with the directory of the list; else anything.
+pub fn both_stages(
+    list: &[u8],
+    doc: &[u8],
+    work1: &mut [u32],
+    work2: &mut [u32],
+    names: &mut [u32],
+) -> Staged
     requires { ⌜ (length (now list) ≤ maxText) × (length (now doc) ≤ maxText) ⌝ }
-    requires { ⌜ (workWords ≤ length (now work1)) × (workWords ≤ length (now work2)) ⌝ }
-    ensures { λ r. ⌜ BothDone (now (list .entry)) (now (doc .entry)) (now (work1 .exit)) (now (work2 .exit)) r ⌝ }
+    requires { ⌜ (workWords ≤ length (now work1)) × ((workWords ≤ length (now work2)) × (maxTokens ≤ length (now names))) ⌝ }
+    ensures { λ r. ⌜ BothDone (now (list .entry)) (now (doc .entry)) (now (work1 .exit)) (now (work2 .exit)) (now (names .exit)) r ⌝ }
     ensures { λ _. ⌜ length (now (work1 .exit)) ≡ length (now (work1 .entry)) ⌝ }
     ensures { λ _. ⌜ length (now (work2 .exit)) ≡ length (now (work2 .entry)) ⌝ }
 {
     let classes = CLASSES;
-    match list_stages(&classes, list, &mut *work1) {
-        Listed::Passed(n, k) => document_stages(&classes, list, work1, n, k, doc, work2),
+    match list_stages(&classes, list, &mut *work1, &mut *names) {
+        Listed::Passed(n, k) => document_stages(&classes, list, work1, n, names, k, doc, work2),
         Listed::Stopped(r) => Staged::Stopped(r),
     }
 }

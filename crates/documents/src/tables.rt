@@ -2,10 +2,10 @@
 use crate::calls::Places;
 use crate::calls::places_at;
 use crate::wiring::is_use;
+use lexis::symbol::Symbol;
 use lists::operation::Lookup;
 use lists::operation::find;
 use lists::word::start_at;
-use syntax::symbol::Symbol;
 use syntax::symbol::symbol_at;
 ghost use mathlib.Core.Path.{_≡_};
 ghost use mathlib.Core.List.{List, [], _∷_, flatMap};

@@ -1,12 +1,12 @@
-// Assigning and using identifiers: which call assigns one, and the faults of names in lists, left sides and arguments. The table is lent
-// with the scratch words behind it, for an index; the search here is linear.
+// Assigning and using identifiers: which call assigns one, and the faults of names in lists, left sides and arguments. The search here
+// is linear.
 use crate::calls::places_at;
 use crate::code::Code;
 use lexis::limits::Limits;
+use lexis::symbol::Symbol;
 use lists::best::Best;
 use lists::names::seen;
 use lists::word::start_at;
-use syntax::symbol::Symbol;
 use syntax::symbol::symbol_at;
 ghost use mathlib.Core.Path.{_≡_};
 ghost use mathlib.Core.Bool.{not};

@@ -11,14 +11,10 @@ use Rattle.lexis.specs.Sizes.{maxText, tokenWords, tableWords}
 use Rattle.lexis.specs.Lexer.{Token, Lexed, accepted, refused, lex}
 use Rattle.lexis.specs.Answer.{answer, records, countedAfter, answerOf, recorded, tokensAnswer, tokensTable}
 use Rattle.lexis.specs.Work.{Recorded, Room}
+use Rattle.lexis.proofs.Laid.{records-length}
 use Rattle.lexis.specs.declared.Answer.{Answer}
 use Rattle.lexis.specs.declared.Counted.{Counted}
 use Rattle.lexis.specs.declared.Counted.the-variants.{Tokens, Fault}
-
-records-length : (ts : List Token) → length (records ts) ≡ length ts * tokenWords
-unfolding records
-records-length [] = refl
-records-length (t ∷ ts) = omega (arith, records-length ts)
 
 -- what a copy of the records out of the work area leaves
 copied : (work work′ table table′ rs : List ℕ) (m : ℕ) → length rs ≡ m → m ≤ length work → m ≤ length table → work′ ≡ sets work 0 rs → table′ ≡ paste table 0 work′ m → table′ ≡ sets table 0 rs
@@ -30,16 +26,16 @@ copied work work′ table table′ rs m e hw ht ew et =
 pub room-of : (r : Counted) (n m : ℕ) → r ≡ Tokens n → Room r m → Room (Tokens n) m
 room-of r n m e h = subst (λ (x : Counted). Room x m) e h
 
-pub written-length : (l : Lexed) (before after : List ℕ) → Recorded l before after → length after ≡ length before
+pub written-length : (l : Lexed) (before after : List ℕ) → Recorded false l before after → length after ≡ length before
 written-length (accepted ts) before after e = ap length e ∙ length-sets before 0 (records ts)
 written-length (refused c p) before after e = e
 
 module _ (l : Lexed) (work work′ : List ℕ) where
-  pub by-good : (n m : ℕ) (table table′ : List ℕ) → Tokens n ≡ countedAfter 0 l → Recorded l work work′ → Room (Tokens n) (length work) → m ≡ n * tokenWords → tableWords ≤ length table → table′ ≡ paste table 0 work′ m
+  pub by-good : (n m : ℕ) (table table′ : List ℕ) → Tokens n ≡ countedAfter 0 l → Recorded false l work work′ → Room (Tokens n) (length work) → m ≡ n * tokenWords → tableWords ≤ length table → table′ ≡ paste table 0 work′ m
       → (answer 0 0 0 n ≡ answerOf (countedAfter 0 l)) × (table′ ≡ recorded table l)
   by-good n m table table′ e w r q h p = (ap answerOf e, go l e w)
     where
-      go : (l : Lexed) → Tokens n ≡ countedAfter 0 l → Recorded l work work′ → table′ ≡ recorded table l
+      go : (l : Lexed) → Tokens n ≡ countedAfter 0 l → Recorded false l work work′ → table′ ≡ recorded table l
       go (accepted ts) e w =
           let many : n ≡ 0 + length ts = cc in
           copied work work′ table table′ (records ts) m (omega (arith, records-length ts)) (omega (arith, r .1)) (omega (arith, r .0)) w p

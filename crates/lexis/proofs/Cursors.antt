@@ -2,7 +2,7 @@
 use mathlib.Core.Path.{_≡_, refl, sym, ap, _∙_, subst}
 use mathlib.Core.Bool.{Bool, true, false, cond}
 use mathlib.Core.List.{List, []}
-use Prim.Native.Nat.{ℕ, suc, _+_, _≤_, _<_}
+use Prim.Native.Nat.{ℕ, suc, _+_, _-_, _≤_, _<_}
 use native.Mathlib.Nat.{le-refl}
 use native.Mathlib.Numerals.{add-one}
 use native.Mathlib.Omega.{arith}
@@ -11,6 +11,7 @@ use lib.ListN.{length, take, drop, getD, length-drop, drop-of-length-le}
 use lib.Seq.{drop-drop, length-take-le}
 use borrow.Author.Tests.{le-leb, lt-leb, ne-eqb, leb-true, leb-false, ltb-true, eqb-true, eqb-false}
 use Rattle.lexis.specs.Sizes.{maxTokens}
+use Rattle.lexis.specs.Kind.{IsKind}
 use Rattle.lexis.specs.Bytes.{classOf, spanLen, gapFrom, gapLen}
 use Rattle.lexis.specs.Lexeme.{lexeme}
 use Rattle.lexis.specs.Lexer.{Token, Lexed, accepted, refused, prepend, lexFrom}
@@ -21,10 +22,11 @@ use Rattle.lexis.specs.declared.token.Lexeme.the-variants as L
 use Rattle.lexis.specs.declared.cursor.Cursor.{Cursor}
 use Rattle.lexis.specs.declared.cursor.Record.{Record}
 use Rattle.lexis.specs.declared.cursor.Step.{Step}
-use Rattle.lexis.specs.declared.cursor.Step.the-variants.{Next, Gap, End, Fault}
+use Rattle.lexis.specs.declared.cursor.Step.the-variants.{Next, Mark, Gap, End, Fault}
 use Rattle.lexis.specs.declared.span.Run.{Run}
 use Rattle.lexis.specs.declared.span.Run.the-variants.{Spaces, Comment}
 use Rattle.lexis.proofs.Lengths.{Sized, sized}
+use Rattle.lexis.proofs.Verdicts.{Told, told}
 use Rattle.lexis.proofs.Lexer.{lex-nil, after, lex-token}
 use Rattle.lexis.proofs.Runs.{gap-stop}
 use Rattle.lexis.proofs.Positions.{span-in}
@@ -75,7 +77,9 @@ pub record Stepped (text : List ℕ) (c : Cursor) (r : Record) (d : Cursor) : Ty
   pub bytes : List ℕ
   pub lexes : lexHere text c ≡ prepend (record { kind = r .kind; start = r .start; bytes = bytes }) (lexHere text d)
   pub ends : r .start + length bytes ≡ r .end
-  pub starts : r .start ≤ r .end
+  pub spelt : bytes ≡ take (r .end - r .start) (drop (r .start) text)
+  pub kinded : IsKind (r .kind)
+  pub some : r .start < r .end
   pub inside : r .end ≤ length text
   pub moves : c .at < d .at
   pub within : d .at ≤ length text
@@ -91,36 +95,39 @@ pub record Passed (text : List ℕ) (c d : Cursor) : Type 0 where
 
 abbrev pub Says : List ℕ → Cursor → Step → Type 0
 Says text c (Next r d) = Stepped text c r d
+Says text c (Mark d) = Stepped text c (record { kind = 8; start = c .at; end = d .at }) d
 Says text c (Gap d) = Passed text c d
 Says text c End = lexHere text c ≡ accepted []
 Says text c (Fault code p) = (lexHere text c ≡ refused code p) × (p ≤ length text)
 
 -- a token of length n at `start`
 token-says : (text : List ℕ) (c : Cursor) (start k n : ℕ) → c .at ≤ start → start ≤ length text
-    → lexHere text c ≡ after (L.Token k n) (c .count) start (drop start text) → Sized (length (drop start text)) (L.Token k n)
+    → lexHere text c ≡ after (L.Token k n) (c .count) start (drop start text) → Sized (length (drop start text)) (L.Token k n) → IsKind k
     → (b : Bool) → ltb (c .count) maxTokens ≡ b
     → Says text c (cond b (Next (record { kind = k; start = start; end = start + n }) (record { at = start + n; count = c .count + 1 })) (Fault 8 start))
-token-says text c start k n h l e z true t =
+token-says text c start k n h l e z kind true t =
     let fits : start + n ≤ length text = omega (arith, z .1, length-drop start text) in
     record {
       bytes = take n (drop start text);
       lexes = e ∙ ap (λ (b : Bool). cond b (prepend (record { kind = k; start = start; bytes = take n (drop start text) }) (lexFrom 0 (suc (c .count)) (start + n) (drop n (drop start text)))) (refused 8 start)) t
           ∙ rw (drop-drop n start text, add-one);
       ends = ap (λ (m : ℕ). start + m) (length-take-le n (drop start text) (z .1));
-      starts = omega arith;
+      spelt = let m : n ≡ (start + n) - start = omega arith in ap (λ (i : ℕ). take i (drop start text)) m;
+      kinded = kind;
+      some = omega (arith, z .0);
       inside = fits;
       moves = omega (arith, z .0);
       within = fits;
       room = ltb-true (c .count) maxTokens t;
       counts = refl;
     }
-token-says text c start k n h l e z false t =
+token-says text c start k n h l e z kind false t =
     (e ∙ ap (λ (b : Bool). cond b (prepend (record { kind = k; start = start; bytes = take n (drop start text) }) (lexFrom 0 (suc (c .count)) (start + n) (drop n (drop start text)))) (refused 8 start)) t, l)
 
 lexeme-says : (text : List ℕ) (c : Cursor) (start : ℕ) (l : Lexeme) → c .at ≤ start → start ≤ length text
-    → lexHere text c ≡ after l (c .count) start (drop start text) → Sized (length (drop start text)) l → Says text c (stepTo l start (c .count))
-lexeme-says text c start (L.Fault code) h k e z = (e, k)
-lexeme-says text c start (L.Token k n) h l e z = token-says text c start k n h l e z (ltb (c .count) maxTokens) refl
+    → lexHere text c ≡ after l (c .count) start (drop start text) → Sized (length (drop start text)) l → Told l → Says text c (stepTo l start (c .count))
+lexeme-says text c start (L.Fault code) h k e z t = (e, k)
+lexeme-says text c start (L.Token k n) h l e z t = token-says text c start k n h l e z t (ltb (c .count) maxTokens) refl
 
 module _ (text : List ℕ) (c : Cursor) where
   gap-says : (run : Run) → c .at < length text
@@ -139,7 +146,7 @@ module _ (text : List ℕ) (c : Cursor) where
       let none : c .at + gapFrom false (drop (c .at) text) ≡ c .at = gap-stop text (c .at) false h refl n5 n1 in
       let bare : gapLen (drop (c .at) text) ≡ 0 = omega arith in
       let some : 0 < length (drop (c .at) text) = omega (arith, length-drop (c .at) text) in
-      lexeme-says text c (c .at) (lexeme (drop (c .at) text)) (le-refl (c .at)) (omega arith) (lex-token (c .count) (c .at) (drop (c .at) text) some bare) (sized (drop (c .at) text))
+      lexeme-says text c (c .at) (lexeme (drop (c .at) text)) (le-refl (c .at)) (omega arith) (lex-token (c .count) (c .at) (drop (c .at) text) some bare) (sized (drop (c .at) text)) (told (drop (c .at) text))
 
   pick-says : (a b d : Bool) → leb (length text) (c .at) ≡ a → eqb (classOf (getD text (c .at) 0)) 1 ≡ b → eqb (classOf (getD text (c .at) 0)) 5 ≡ d
       → Says text c (cond a End (cond b (gapTo Spaces text c) (cond d (gapTo Comment text c) (stepTo (lexeme (drop (c .at) text)) (c .at) (c .count)))))

@@ -14,7 +14,7 @@ use Rattle.lexis.specs.Lexeme.{numberLexeme, wordLexeme, stringLexeme, m
 use Rattle.lexis.specs.declared.token.Lexeme.{Lexeme}
 use Rattle.lexis.specs.declared.token.Lexeme.the-variants.{Token}
 use Rattle.lexis.proofs.Positions.{front}
-use Rattle.lexis.proofs.Marks.{mark-alone}
+use Rattle.lexis.proofs.Marks.{mark-alone, mark-equal}
 
 module _ (s : List ℕ) (at : ℕ) (h : at < length s) (k : ℕ) (is : k ≡ classOf (getD s at 0)) where
   here : lexeme (drop at s) ≡ cond (eqb k 2) (numberLexeme (drop at s)) (cond (eqb k 3) (wordLexeme (drop at s)) (cond (eqb k 4) (stringLexeme (getD s at 0) (drop (at + 1) s)) (markLexeme (getD s at 0) (getD s (at + 1) 0))))
@@ -35,3 +35,6 @@ module _ (s : List ℕ) (at : ℕ) (h : at < length s) (k : ℕ) (is : k ≡ cla
 
   pub alone-here : k ≡ 7 → (getD s at 0 ≡ 61 → ⊥) → Token 8 1 ≡ lexeme (drop at s)
   alone-here e n = mark-here (Token 8 1) (λ z. omega arith) (λ z. omega arith) (λ z. omega arith) (mark-alone k (getD s at 0) (getD s (at + 1) 0) is e n)
+
+  pub equal-here : k ≡ 7 → getD s at 0 ≡ 61 → (getD s (at + 1) 0 ≡ 61 → ⊥) → Token 8 1 ≡ lexeme (drop at s)
+  equal-here e q n = mark-here (Token 8 1) (λ z. omega arith) (λ z. omega arith) (λ z. omega arith) (mark-equal k (getD s at 0) (getD s (at + 1) 0) is q n)

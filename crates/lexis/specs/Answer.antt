@@ -3,11 +3,12 @@ use Prim.Native.Nat.{ℕ, _+_}
 use mathlib.Core.Bool.{cond}
 use mathlib.Core.List.{List, [], _∷_}
 use lib.Dec.{leb}
-use lib.ListN.{length}
+use lib.ListN.{length, set}
 use lib.Seq.{sets}
 use Rattle.lexis.specs.Sizes.{maxText, tableWords}
 use Rattle.lexis.specs.Code as Code
 use Rattle.lexis.specs.Lexer.{Token, Lexed, accepted, refused, lex}
+use Rattle.lexis.specs.Symbol.{symbols}
 use Rattle.lexis.specs.declared.Answer.{Answer}
 use Rattle.lexis.specs.declared.Counted.{Counted}
 use Rattle.lexis.specs.declared.Counted.the-variants.{Tokens, Fault}

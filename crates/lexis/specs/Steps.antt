@@ -6,6 +6,7 @@ use lib.Dec.{leb, ltb, eqb}
 use lib.ListN.{length, drop, getD}
 use Rattle.lexis.specs.Sizes.{maxTokens}
 use Rattle.lexis.specs.Code as Code
+use Rattle.lexis.specs.Kind as Kind
 use Rattle.lexis.specs.Class as Class
 use Rattle.lexis.specs.Bytes.{classOf, spanLen}
 use Rattle.lexis.specs.Runs.{passes}
@@ -16,7 +17,7 @@ use Rattle.lexis.specs.declared.token.Lexeme.{Lexeme}
 use Rattle.lexis.specs.declared.token.Lexeme.the-variants as L
 use Rattle.lexis.specs.declared.cursor.Cursor.{Cursor}
 use Rattle.lexis.specs.declared.cursor.Step.{Step}
-use Rattle.lexis.specs.declared.cursor.Step.the-variants.{Next, Gap, End, Fault}
+use Rattle.lexis.specs.declared.cursor.Step.the-variants.{Next, Mark, Gap, End, Fault}
 
 -- the record of a token of kind k and length n at `start`, the count-th of its text, with the next cursor
 abbrev pub stepTo : Lexeme → ℕ → ℕ → Step
@@ -35,3 +36,15 @@ stepAt text c =
     let k = classOf (getD text (c .at) 0) in
     let token = stepTo (lexeme (drop (c .at) text)) (c .at) (c .count) in
     cond (leb (length text) (c .at)) End (cond (eqb k Class.space) (gapTo Spaces text c) (cond (eqb k Class.comment) (gapTo Comment text c) token))
+
+-- a syntactic character of one byte
+abbrev pub aMark : Lexeme
+aMark = L.Token Kind.syntactic 1
+
+-- a step of its own to such a character is a step to a token
+abbrev pub plainly : Cursor → Step → Step
+plainly c (Next r d) = Next r d
+plainly c (Mark d) = Next (record { kind = Kind.syntactic; start = c .at; end = d .at }) d
+plainly c (Gap d) = Gap d
+plainly c End = End
+plainly c (Fault code p) = Fault code p

@@ -8,23 +8,30 @@ pub mod limits;
 mod mantissa;
 pub mod number;
 mod span;
+pub mod symbol;
 mod token;
 pub mod word;
 
 use class::CLASSES;
 use code::Code;
 use cursor::Cursor;
+use cursor::Record;
 use cursor::Step;
+use kind::Kind;
 use limits::Limits;
+use symbol::symbol_of;
 ghost use mathlib.Core.Path.{_≡_};
 ghost use lib.Seq.{paste};
-ghost use Prim.Native.Nat.{_*_, _≤_, min};
-ghost use lib.ListN.{length};
+ghost use mathlib.Core.Bool.{true, false};
+ghost use Prim.Native.Nat.{_+_, _-_, _*_, _<_, _≤_, min};
+ghost use lib.ListN.{length, take, drop};
 ghost use Rattle.lexis.specs.Answer.{tokensAnswer, tokensTable, counted, answerOf, recorded};
 ghost use Rattle.lexis.specs.Bytes.{classTable};
+ghost use Rattle.lexis.specs.Kind.{IsKind};
 ghost use Rattle.lexis.specs.Lexer.{lex};
-ghost use Rattle.lexis.specs.Sizes.{maxText, maxTokens, recordWords, tokenWords, tableWords};
-ghost use Rattle.lexis.specs.Work.{Recorded, Room};
+ghost use Rattle.lexis.specs.Sizes.{maxText, maxTokens, recordWords, tokenWords, tableWords, firstMark};
+ghost use Rattle.lexis.specs.Symbol.{symbolOf};
+ghost use Rattle.lexis.specs.Work.{Recorded, Room, areaWords, recordAt, markedAt};
 
 // The four numbers of an answer.
 #[repr(C)]
@@ -82,24 +89,33 @@ pub fn tokens(text: &[u8], table: &mut [u32]) -> Answer
     tokens_long(text, table)
 }
 
-// The records of a text of at most 16384 bytes, written in front of a work area as they are found. On a fault the work area holds
-// anything, and is as long as before.
-pub fn lex_into(classes: &[u8; 256], text: &[u8], work: &mut [u32]) -> Counted
+// The records of a text of at most 16384 bytes, written in front of a work area as they are found, and where it is to be `marked` the
+// terminals of the tokens behind them. On a fault the work area holds anything, and is as long as before.
+pub fn lex_into(classes: &[u8; 256], text: &[u8], work: &mut [u32], marked: bool) -> Counted
     requires { ⌜ now classes ≡ classTable ⌝ }
     requires { ⌜ length (now text) ≤ maxText ⌝ }
-    requires { ⌜ recordWords * min (length (now text)) maxTokens ≤ length (now work) ⌝ }
+    requires { ⌜ areaWords marked (length (now text)) ≤ length (now work) ⌝ }
     ensures { λ r. ⌜ r ≡ counted (lex (now (text .entry))) ⌝ }
-    ensures { λ _. ⌜ Recorded (lex (now (text .entry))) (now (work .entry)) (now (work .exit)) ⌝ }
+    ensures { λ _. ⌜ Recorded marked (lex (now (text .entry))) (now (work .entry)) (now (work .exit)) ⌝ }
     ensures { λ r. ⌜ Room r (length (now (work .entry))) ⌝ }
 {
     let mut c = Cursor::new();
     loop {
         match c.next(classes, text) {
             Step::Next(r, d) => {
-                let i = c.count * Limits::RECORD_WORDS;
-                work[i] = wide(r.kind);
-                work[i + 1] = narrow(r.start);
-                work[i + 2] = narrow(r.end);
+                put_record(&mut *work, c.count, r);
+                mark(text, r, &mut *work, c.count, marked);
+                c = d;
+            }
+            Step::Mark(d) => {
+                let at = c.at;
+                let r = Record {
+                    kind: Kind::SYNTACTIC,
+                    start: at,
+                    end: d.at,
+                };
+                put_record(&mut *work, c.count, r);
+                put_mark(&mut *work, c.count, wide(text[at]), marked);
                 c = d;
             }
             Step::Gap(d) => {
@@ -116,6 +132,43 @@ pub fn lex_into(classes: &[u8; 256], text: &[u8], work: &mut [u32]) -> Counted
             }
         }
     }
+}
+
+// The record of the token at place `i`.
+fn put_record(work: &mut [u32], i: usize, r: Record)
+    requires { ⌜ i * recordWords + 2 < length (now work) ⌝ }
+    requires { ⌜ (r .start ≤ maxText) × (r .end ≤ maxText) ⌝ }
+    ensures { λ _. ⌜ now (work .exit) ≡ recordAt (now (work .entry)) (i * recordWords) (r .kind) (r .start) (r .end) ⌝ }
+{
+    let j = i * Limits::RECORD_WORDS;
+    work[j] = wide(r.kind);
+    work[j + 1] = narrow(r.start);
+    work[j + 2] = narrow(r.end);
+}
+
+// The terminal s of the token at place `i` behind the records, where the work area is to be marked.
+fn put_mark(work: &mut [u32], i: usize, s: u32, marked: bool)
+    requires { ⌜ (marked ≡ true → firstMark + i < length (now work)) ⌝ }
+    ensures { λ _. ⌜ now (work .exit) ≡ markedAt marked (now (work .entry)) i s ⌝ }
+{
+    if !marked {
+        return;
+    }
+    work[Limits::MARKS + i] = s;
+}
+
+// The terminal of the token at place `i` behind the records, where the work area is to be marked.
+fn mark(text: &[u8], r: Record, work: &mut [u32], i: usize, marked: bool)
+    requires { ⌜ IsKind (r .kind) ⌝ }
+    requires { ⌜ r .start < r .end ⌝ }
+    requires { ⌜ r .end ≤ length (now text) ⌝ }
+    requires { ⌜ (marked ≡ true → firstMark + i < length (now work)) ⌝ }
+    ensures { λ _. ⌜ now (work .exit) ≡ markedAt marked (now (work .entry)) i (symbolOf (r .kind) (take (r .end - r .start) (drop (r .start) (now (text .entry))))) ⌝ }
+{
+    if !marked {
+        return;
+    }
+    work[Limits::MARKS + i] = symbol_of(text, r.kind, r.start, r.end);
 }
 
 // Work areas by the size of the text: a work area is cleared when it is made, so a short text gets a short one.
@@ -155,7 +208,7 @@ fn tokens_long(text: &[u8], table: &mut [u32]) -> Answer
     ensures { λ r. ⌜ r ≡ answerOf (counted (lex (now (text .entry)))) ⌝ }
     ensures { λ _. ⌜ now (table .exit) ≡ recorded (now (table .entry)) (lex (now (text .entry))) ⌝ }
 {
-    let mut long = [0u32; Limits::SCRATCH_START];
+    let mut long = [0u32; Limits::MARKS];
     tokens_by(text, &mut long, table)
 }
 
@@ -168,7 +221,7 @@ fn tokens_by(text: &[u8], work: &mut [u32], table: &mut [u32]) -> Answer
     ensures { λ _. ⌜ now (table .exit) ≡ recorded (now (table .entry)) (lex (now (text .entry))) ⌝ }
 {
     let classes = CLASSES;
-    match lex_into(&classes, text, &mut *work) {
+    match lex_into(&classes, text, &mut *work, false) {
         Counted::Tokens(n) => {
             copy(work, table, words_of(n));
             Answer {

@@ -66,8 +66,8 @@ impl Limits {
     // The words of a token's record in a work area: kind, start, end after the last byte.
     pub const RECORD_WORDS: usize = 3;
 
-    // Where the scratch words of a work area begin: behind a record for each token.
-    pub const SCRATCH_START: usize = Limits::TOKENS * Limits::RECORD_WORDS;
+    // The first word of the terminals in a work area: one for each token, behind the records.
+    pub const MARKS: usize = Limits::TOKENS * Limits::RECORD_WORDS;
 
     // The exponent of a number as written, without its sign.
     pub const WRITTEN: u32 = 9999;

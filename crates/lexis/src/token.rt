@@ -135,7 +135,7 @@ pub fn mark_of(k: u8, a: u8, b: u8) -> Lexeme
     Lexeme::Fault(Code::NO_TOKEN)
 }
 
-// What stands at `at`, a byte of class k, where no gap does. The marks of one byte come first: they are the most frequent tokens.
+// What stands at `at`, a byte of class k, where no gap does.
 pub fn token_at(classes: &[u8; 256], text: &[u8], at: usize, k: u8) -> Lexeme
     requires { ⌜ now classes ≡ classTable ⌝ }
     requires { ⌜ at < length (now text) ⌝ }
@@ -143,14 +143,6 @@ pub fn token_at(classes: &[u8; 256], text: &[u8], at: usize, k: u8) -> Lexeme
     ensures { λ r. ⌜ r ≡ lexeme (drop at (now (text .entry))) ⌝ }
 {
     let b = text[at];
-    if k == Class::SYNTACTIC {
-        if b != b'=' {
-            return Lexeme::Token {
-                kind: Kind::SYNTACTIC,
-                len: 1,
-            };
-        }
-    }
     if k == Class::LETTER {
         return word_at(classes, text, at);
     }

@@ -9,7 +9,7 @@ use lib.Dec.{eqb, leb}
 use lib.ListN.{take, drop}
 use borrow.Author.Tests.{eqb-true, leb-true, leb-false}
 use Rattle.lexis.specs.Lexer.{Token}
-use Rattle.syntax.specs.Symbol.{symOf, isLiteral, leftRound, rightRound, leftSquare, rightSquare, comma, aName, aNumber, aLiteral}
+use Rattle.lexis.specs.Symbol.{symOf, isLiteral, leftRound, rightRound, leftSquare, rightSquare, comma, aName, aNumber, aLiteral}
 use Rattle.syntax.specs.Tree.{Value, Values, Ty, Tys}
 use Rattle.syntax.specs.Tree.Value.{name, literal, array, tuple}
 use Rattle.syntax.specs.Tree.Values.{none, more}

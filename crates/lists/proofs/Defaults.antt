@@ -12,7 +12,7 @@ use lib.ListN.{length}
 use borrow.Author.Tests.{eq-eqb, ne-eqb, leb-true, leb-false}
 use Rattle.lexis.specs.Sizes.{maxBrackets}
 use Rattle.lexis.specs.Lexer.{Token}
-use Rattle.syntax.specs.Symbol.{symOf, isLiteral, leftRound, leftSquare, equal, aName}
+use Rattle.lexis.specs.Symbol.{symOf, isLiteral, leftRound, leftSquare, equal, aName}
 use Rattle.syntax.specs.Tree.{Value, Ty, Param}
 use Rattle.syntax.specs.Tree.Value.{name, literal, array, tuple}
 use Rattle.syntax.specs.Grammar.{Leaves, literals, takesNames, takesLiterals}

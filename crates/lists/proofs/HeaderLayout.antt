@@ -6,7 +6,7 @@ use Prim.Native.Nat.{ℕ, _-_}
 use native.Mathlib.Omega.{arith}
 use borrow.Author.Tests.{eq-eqb, ne-eqb}
 use Rattle.lexis.specs.Lexer.{Token}
-use Rattle.syntax.specs.Symbol.{symOf, leftRound, rightRound, comma, arrow, aName, fragment}
+use Rattle.lexis.specs.Symbol.{symOf, leftRound, rightRound, comma, arrow, aName, fragment}
 use Rattle.syntax.specs.Tree.{Param, Result, Header}
 use Rattle.syntax.specs.Parser.{Reader, plain, row, param, result, header}
 use Rattle.syntax.specs.Parser.Parse.{ok}

@@ -11,7 +11,7 @@ use native.Mathlib.Nat.{add-zero}
 use borrow.Author.Tests.{eq-eqb, ne-eqb}
 use Rattle.lexis.specs.Words.{sameBytes}
 use Rattle.lexis.specs.Lexer.{Token}
-use Rattle.syntax.specs.Symbol.{symOf, aName}
+use Rattle.lexis.specs.Symbol.{symOf, aName}
 use Rattle.syntax.specs.Table.{tokenAt, tokensFrom, toks}
 use Rattle.syntax.specs.Inner.{lookahead}
 use Rattle.syntax.proofs.Table.{toks-none, toks-more}

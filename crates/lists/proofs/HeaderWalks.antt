@@ -1,21 +1,20 @@
--- The walk that writes a directory behind its table: at each place the words so far, what they say of the headers passed, and the list
+-- The walk that writes a directory: at each place the words so far, what they say of the headers passed, and the list
 -- that is left. Relies on `Directories`, `Own` and `HeaderParses`.
 use mathlib.Core.Path.{_≡_, refl, sym, ap, ap₂, _∙_}
 use mathlib.Core.List.{List, [], _∷_, _++_, append-assoc, append-nil}
 use Prim.Native.Nat.{ℕ, zero, suc, _+_, _-_, _<_, _≤_}
-use native.Mathlib.Nat.{add-zero}
+use native.Mathlib.Nat.{add-zero, zero-add}
 use native.Mathlib.Omega.{arith}
-use lib.ListN.{length, getD, take, set}
-use lib.Seq.{sets, length-sets, take-set-le}
-use Rattle.lexis.specs.Sizes.{scratchStart}
+use lib.ListN.{length, getD, set}
+use lib.Seq.{sets, length-sets}
 use Rattle.lexis.specs.Lexer.{Token}
-use Rattle.syntax.specs.Symbol.{fragment}
+use Rattle.lexis.specs.Symbol.{fragment}
 use Rattle.syntax.specs.Tree.{Header}
 use Rattle.syntax.specs.Parser.{header, operations}
 use Rattle.syntax.specs.Parser.Parse.{ok}
 use Rattle.syntax.specs.Table.{tokenAt, toks}
 use Rattle.syntax.proofs.Table.{toks-none, toks-more}
-use Rattle.lists.specs.Lists.{tableOf, Heads, no-head, a-head, NamePlaces, HasList, Directory}
+use Rattle.lists.specs.Lists.{Heads, no-head, a-head, NamePlaces, HasList, Directory}
 use Rattle.lists.specs.Scans.{fromSymbol}
 use Rattle.lists.proofs.HeaderParses.{IsList, no-header, a-header, list-ok, list-ends}
 use Rattle.lists.proofs.Own.{next-there, name-within}
@@ -28,11 +27,6 @@ sets-snoc l i [] v = ap (λ (k : ℕ). set l k v) (add-zero i)
 sets-snoc l i (w ∷ ws) v =
     let e : i + suc (length ws) ≡ suc i + length ws = omega arith in
     ap (λ (k : ℕ). set (sets (set l i w) (suc i) ws) k v) e ∙ sets-snoc (set l i w) (suc i) ws v
-
--- what stands before them stays
-take-sets : (m : ℕ) (l : List ℕ) (i : ℕ) (ws : List ℕ) → m ≤ i → take m (sets l i ws) ≡ take m l
-take-sets m l i [] h = refl
-take-sets m l i (w ∷ ws) h = take-sets m (set l i w) (suc i) ws (omega arith) ∙ take-set-le m l i w h
 
 snoc-length : (ws : List ℕ) (v : ℕ) → length (ws ++ (v ∷ [])) ≡ length ws + 1
 snoc-length [] v = omega arith
@@ -66,22 +60,22 @@ no-more : (b : ℕ) {ts : List Token} {hs : List Header} → IsList b ts hs → 
 no-more b no-header e = refl
 no-more b (a-header r l) e = let z : _≡_ {A = ℕ} 0 1 = cc in absurd (omega arith)
 
-module _ (text before : List ℕ) (n : ℕ) where
+module _ (text table before : List ℕ) (n : ℕ) where
   abbrev from : ℕ → List Token
-  from i = toks text (tableOf before) n i
+  from i = toks text table n i
 
   -- with these words and those of the list that is left one has the directory of the whole list
   pub record Joined (b at : ℕ) (words : List ℕ) (hs : List Header) : Type 0 where
     pub ahead : List Header
-    pub list : IsList b (toks text (tableOf before) n at) ahead
-    pub join : (qs : List ℕ) → Heads text (tableOf before) n b qs ahead → Heads text (tableOf before) n b (words ++ qs) hs
+    pub list : IsList b (toks text table n at) ahead
+    pub join : (qs : List ℕ) → Heads text table n b qs ahead → Heads text table n b (words ++ qs) hs
 
   pub record Walked (work : List ℕ) (at k : ℕ) : Type 0 where
     pub words : List ℕ
-    pub stored : work ≡ sets before scratchStart words
+    pub stored : work ≡ sets before 0 words
     pub count : length words ≡ k
     pub places : NamePlaces n words
-    pub heads : (b : ℕ) (hs : List Header) → operations b (toks text (tableOf before) n 0) ≡ ok hs [] → Joined b at words hs
+    pub heads : (b : ℕ) (hs : List Header) → operations b (toks text table n 0) ≡ ok hs [] → Joined b at words hs
 
   pub walk-start : Walked before 0 0
   walk-start = record {
@@ -93,16 +87,12 @@ module _ (text before : List ℕ) (n : ℕ) where
   }
 
   pub walk-length : {work : List ℕ} {at k : ℕ} → Walked work at k → length work ≡ length before
-  walk-length w = ap (λ (l : List ℕ). length l) (w .stored) ∙ length-sets before scratchStart (w .words)
-
-  -- the table stays, with one more word too
-  pub walk-kept : {work : List ℕ} {at k : ℕ} (v : ℕ) → Walked work at k → tableOf (set work (scratchStart + k) v) ≡ tableOf before
-  walk-kept {work} {at} {k} v w = take-set-le scratchStart work (scratchStart + k) v (omega arith) ∙ ap tableOf (w .stored) ∙ take-sets scratchStart before scratchStart (w .words) (omega arith)
+  walk-length w = ap (λ (l : List ℕ). length l) (w .stored) ∙ length-sets before 0 (w .words)
 
   module _ {at : ℕ} (l : at < n) where
     -- a header stands at the place
     there : {b : ℕ} {hs : List Header} → IsList b (from at) hs → Next b (from at) hs
-    there {b} i = next-header b i (tokenAt text (tableOf before) at) (from (at + 1)) (toks-more text (tableOf before) n at l)
+    there {b} i = next-header b i (tokenAt text table at) (from (at + 1)) (toks-more text table n at l)
 
     same-place : at + 1 - 1 ≡ at
     same-place = omega arith
@@ -111,25 +101,25 @@ module _ (text before : List ℕ) (n : ℕ) where
     read-there {b} x = ap (λ (i : ℕ). header b (from i)) same-place ∙ x .read
 
     -- and its operation's name behind it
-    pub walk-inside : {work : List ℕ} {k : ℕ} → HasList text (tableOf before) n → Walked work at k → at + 1 < n
+    pub walk-inside : {work : List ℕ} {k : ℕ} → HasList text table n → Walked work at k → at + 1 < n
     walk-inside g w =
         let j = w .heads (g .brackets) (g .headers) (g .is) in
         let x = there (j .list) in
-        name-within text (tableOf before) n (g .brackets) (at + 1) (omega arith) (read-there x) (list-ends (x .more))
+        name-within text table n (g .brackets) (at + 1) (omega arith) (read-there x) (list-ends (x .more))
 
-    pub walk-next : {work : List ℕ} {k r : ℕ} → at + 1 < n → toks text (tableOf before) n r ≡ fromSymbol fragment (toks text (tableOf before) n (at + 1)) → Walked work at k
-        → Walked (set work (scratchStart + k) (at + 1)) r (k + 1)
+    pub walk-next : {work : List ℕ} {k r : ℕ} → at + 1 < n → toks text table n r ≡ fromSymbol fragment (toks text table n (at + 1)) → Walked work at k
+        → Walked (set work k (at + 1)) r (k + 1)
     walk-next {work} {k} {r} m e w = record {
       words = w .words ++ ((at + 1) ∷ []);
       stored =
-          ap₂ (λ (l : List ℕ) (i : ℕ). set l (scratchStart + i) (at + 1)) (w .stored) (sym (w .count)) ∙ sets-snoc before scratchStart (w .words) (at + 1);
+          ap₂ (λ (l : List ℕ) (i : ℕ). set l i (at + 1)) (w .stored) (sym (w .count) ∙ sym (zero-add (length (w .words)))) ∙ sets-snoc before 0 (w .words) (at + 1);
       count = snoc-length (w .words) (at + 1) ∙ ap (λ (i : ℕ). i + 1) (w .count);
       places = places-snoc n (w .words) (at + 1) m (omega arith) (w .places);
       heads = λ b hs o.
           let j = w .heads b hs o in
           let x = there (j .list) in
           let d = list-ends (x .more) in
-          let f : from r ≡ x .left = e ∙ next-there text (tableOf before) n b (at + 1) (omega arith) (read-there x) d in
+          let f : from r ≡ x .left = e ∙ next-there text table n b (at + 1) (omega arith) (read-there x) d in
           record {
             ahead = x .others;
             list = rw f (x .more);
@@ -139,7 +129,7 @@ module _ (text before : List ℕ) (n : ℕ) where
           };
     }
 
-  pub walk-end : {work : List ℕ} {at k : ℕ} → n ≤ at → k ≤ n → Walked work at k → Directory text before work n k
+  pub walk-end : {work : List ℕ} {at k : ℕ} → n ≤ at → k ≤ n → Walked work at k → Directory text table before work n k
   walk-end {at = at} l f w = record {
     words = w .words;
     stored = w .stored;
@@ -148,6 +138,6 @@ module _ (text before : List ℕ) (n : ℕ) where
     places = w .places;
     heads = λ b hs o.
         let j = w .heads b hs o in
-        let z = no-more b (j .list) (toks-none text (tableOf before) n at l) in
+        let z = no-more b (j .list) (toks-none text table n at l) in
         rw (append-nil (w .words)) at (j .join [] (rw z no-head));
   }

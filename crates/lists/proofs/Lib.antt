@@ -29,7 +29,6 @@ pub mod Own
 pub mod Directories
 pub mod Rulings
 pub mod HeaderWalks
-pub mod Front
 pub mod ListStages
 pub mod Clearing
 -- What a list is refused for, and what is answered.

@@ -10,7 +10,7 @@ use lib.Dec.{eqb}
 use lib.ListN.{drop}
 use borrow.Author.Tests.{eq-eqb, ne-eqb}
 use Rattle.lexis.specs.Lexer.{Token}
-use Rattle.syntax.specs.Symbol.{symOf, leftRound, rightRound, equal, comma}
+use Rattle.lexis.specs.Symbol.{symOf, leftRound, rightRound, equal, comma}
 use Rattle.syntax.specs.Tree.{Value, Values, Ty, Tys, Result}
 use Rattle.syntax.specs.Tree.Value.{tuple}
 use Rattle.syntax.specs.Tree.Values.{none, more}

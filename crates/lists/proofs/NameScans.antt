@@ -9,7 +9,7 @@ use native.Mathlib.Omega.{arith}
 use borrow.Author.Tests.{eq-eqb, ne-eqb}
 use Rattle.lexis.specs.Lexer.{Token}
 use Rattle.lexis.specs.Words.{sameBytes}
-use Rattle.syntax.specs.Symbol.{symOf, aName}
+use Rattle.lexis.specs.Symbol.{symOf, aName}
 use Rattle.syntax.specs.Table.{tokenAt, toks}
 use Rattle.syntax.specs.Inner.{lookahead}
 use Rattle.syntax.proofs.Table.{toks-none, toks-more}

@@ -9,7 +9,7 @@ use native.Mathlib.Omega.{arith}
 use lib.ListN.{length}
 use Rattle.lexis.specs.Sizes.{maxParameters, maxResults}
 use Rattle.lexis.specs.Lexer.{Token}
-use Rattle.syntax.specs.Symbol.{symOf, aName, arrow, fragment}
+use Rattle.lexis.specs.Symbol.{symOf, aName, arrow, fragment}
 use Rattle.syntax.specs.Tree.{Param, Result, Header}
 use Rattle.syntax.specs.Parser.{rest, param, header}
 use Rattle.syntax.specs.Parser.Parse.{ok}
@@ -29,7 +29,13 @@ use borrow.Author.Tests.{ne-eqb}
 -- ---- places
 
 pub holds-less : {text table : List ℕ} {n m : ℕ} → Holds text table n → m ≤ n → Holds text table m
-holds-less h l = let r = h .room in record { room = omega arith; within = λ i k. h .within i (omega arith) }
+holds-less h l =
+    record {
+      room = let r = h .room in omega arith;
+      behind = let r = h .behind in omega arith;
+      within = λ i k. h .within i (omega arith);
+      mark = λ i k. h .mark i (omega arith);
+    }
 
 from-split : (text table : List ℕ) (i k m : ℕ) → tokensFrom text table i (k + m) ≡ tokensFrom text table i k ++ tokensFrom text table (i + k) m
 unfolding tokensFrom

@@ -12,7 +12,7 @@ use lib.ListN.{length, length-append, take}
 use lib.Seq.{take-append-seam}
 use borrow.Author.Tests.{leb-true, leb-false}
 use Rattle.lexis.specs.Lexer.{Token}
-use Rattle.syntax.specs.Symbol.{equal}
+use Rattle.lexis.specs.Symbol.{equal}
 use Rattle.syntax.specs.Parser.{begins}
 use Rattle.syntax.specs.Table.{tokenAt, tokensFrom, toks, Holds}
 use Rattle.syntax.proofs.Table.{toks-none, toks-more}
@@ -75,7 +75,13 @@ module _ (text table : List ℕ) where
 
 -- a part of a table that holds its tokens does too
 pub holds-part : (text table : List ℕ) (n j : ℕ) → j ≤ n → Holds text table n → Holds text table j
-holds-part text table n j l h = record { room = let r = h .room in omega arith; within = λ i k. h .within i (omega arith) }
+holds-part text table n j l h =
+    record {
+      room = let r = h .room in omega arith;
+      behind = let r = h .behind in omega arith;
+      within = λ i k. h .within i (omega arith);
+      mark = λ i k. h .mark i (omega arith);
+    }
 
 -- ---- names and uses
 

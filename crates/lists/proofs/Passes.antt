@@ -12,7 +12,7 @@ use lib.ListN.{length}
 use borrow.Author.Tests.{eqb-true}
 use Rattle.lexis.specs.Lexer.{Token}
 use Rattle.lists.specs.Lists.{Plain}
-use Rattle.syntax.specs.Symbol.{symOf, isLiteral, leftRound, rightRound, leftSquare, rightSquare, equal, comma, arrow, aName, aNumber, aLiteral, fragment, tensorWord, extentWord, scalarWord, logicalWord, stringWord}
+use Rattle.lexis.specs.Symbol.{symOf, isLiteral, leftRound, rightRound, leftSquare, rightSquare, equal, comma, arrow, aName, aNumber, aLiteral, fragment, tensorWord, extentWord, scalarWord, logicalWord, stringWord}
 use Rattle.syntax.specs.Tree.{Value, Ty}
 use Rattle.syntax.specs.Tree.Ty.{tensor, extent, scalar, logical, string, arrayOf}
 use Rattle.syntax.specs.Grammar.{literals}

@@ -8,7 +8,7 @@ use native.Mathlib.Omega.{arith}
 use lib.Dec.{eqb}
 use borrow.Author.Tests.{eqb-false}
 use Rattle.lexis.specs.Lexer.{Token}
-use Rattle.syntax.specs.Symbol.{symOf, leftSquare, rightSquare, rightRound, comma}
+use Rattle.lexis.specs.Symbol.{symOf, leftSquare, rightSquare, rightRound, comma}
 use Rattle.syntax.specs.Tree.{Value, Ty, Tys, Result}
 use Rattle.syntax.specs.Tree.Ty.{arrayOf}
 use Rattle.syntax.specs.Tree.Tys.{no-type, a-type}

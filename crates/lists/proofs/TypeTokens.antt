@@ -9,7 +9,7 @@ use native.Mathlib.Omega.{arith}
 use lib.Dec.{eqb}
 use borrow.Author.Tests.{eq-eqb, ne-eqb}
 use Rattle.lexis.specs.Lexer.{Token}
-use Rattle.syntax.specs.Symbol.{symOf, leftRound, rightRound, leftSquare, rightSquare, comma, tensorWord}
+use Rattle.lexis.specs.Symbol.{symOf, leftRound, rightRound, leftSquare, rightSquare, comma, tensorWord}
 use Rattle.syntax.specs.Tree.{Ty, Tys}
 use Rattle.syntax.specs.Tree.Ty.{tensor, arrayOf, tupleOf}
 use Rattle.syntax.specs.Tree.Tys.{a-type}

@@ -4,12 +4,12 @@ use mathlib.Core.Path.{_≡_}
 use mathlib.Core.Bool.{Bool, cond}
 use mathlib.Core.List.{List, [], _∷_, _++_, map, flatMap, flatten}
 use lib.Dec.{eqb}
-use lib.ListN.{length, getD, take}
+use lib.ListN.{length, getD}
 use lib.Seq.{sets}
-use Rattle.lexis.specs.Sizes.{scratchStart, maxBrackets, maxParameters, maxResults}
+use Rattle.lexis.specs.Sizes.{maxBrackets, maxParameters, maxResults}
 use Rattle.lexis.specs.Words.{sameBytes}
 use Rattle.lexis.specs.Lexer.{Token}
-use Rattle.syntax.specs.Symbol.{symOf, aName, arrow, fragment}
+use Rattle.lexis.specs.Symbol.{symOf, aName, arrow, fragment}
 use Rattle.syntax.specs.Tree.{Header, Param, Result}
 use Rattle.syntax.specs.Parser.{Reader, param, header, operations}
 use Rattle.syntax.specs.Parser.Parse.{ok}
@@ -70,11 +70,7 @@ headerFaults h =
     ∷ defaultFaults (h .params)
     ∷ [])
 
--- ---- the directory: behind the table, the place of each operation's name
-
--- the words of a work area that hold the token table
-abbrev pub tableOf : List ℕ → List ℕ
-tableOf work = take scratchStart work
+-- ---- the directory: the place of each operation's name
 
 -- the headers stand at these places: each begins one place before that of its name, and the next header or the end follows it
 pub data Heads (text table : List ℕ) (n b : ℕ) : List ℕ → List Header → Type 0 where
@@ -92,14 +88,14 @@ pub record HasList (text table : List ℕ) (n : ℕ) : Type 0 where
   pub headers : List Header
   pub is : operations brackets (toks text table n 0) ≡ ok headers []
 
--- k words are stored behind the table, and they are the directory of whatever list the tokens are
-pub record Directory (text before after : List ℕ) (n k : ℕ) : Type 0 where
+-- k words are stored in front, and they are the directory of whatever list the tokens are
+pub record Directory (text table before after : List ℕ) (n k : ℕ) : Type 0 where
   pub words : List ℕ
-  pub stored : after ≡ sets before scratchStart words
+  pub stored : after ≡ sets before 0 words
   pub count : length words ≡ k
   pub few : k ≤ n
   pub places : NamePlaces n words
-  pub heads : (b : ℕ) (hs : List Header) → operations b (toks text (tableOf before) n 0) ≡ ok hs [] → Heads text (tableOf before) n b words hs
+  pub heads : (b : ℕ) (hs : List Header) → operations b (toks text table n 0) ≡ ok hs [] → Heads text table n b words hs
 
 -- ---- look-up
 

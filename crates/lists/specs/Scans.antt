@@ -5,7 +5,7 @@ use mathlib.Core.List.{List, [], _∷_}
 use mathlib.Core.Bool.{Bool, cond, not, _&&_, _||_}
 use lib.Dec.{eqb}
 use Rattle.lexis.specs.Lexer.{Token}
-use Rattle.syntax.specs.Symbol.{symOf, aName, equal, leftRound, rightRound, leftSquare, rightSquare}
+use Rattle.lexis.specs.Symbol.{symOf, aName, equal, leftRound, rightRound, leftSquare, rightSquare}
 use Rattle.syntax.specs.Parser.{begins}
 use Rattle.lists.specs.Names.{those}
 

@@ -1,9 +1,9 @@
--- What the stages of an operation list come to, and what they leave in the work area: a table in front, and behind it the directory.
+-- What the stages of an operation list come to, and what they leave: a table in the work area, and the directory of its operations.
 use Prim.Native.Nat.{ℕ, _≤_}
 use mathlib.Core.Path.{_≡_}
 use mathlib.Core.List.{List, []}
-use lib.ListN.{length, take, drop}
-use Rattle.lexis.specs.Sizes.{maxTokens, scratchStart, maxBrackets}
+use lib.ListN.{length, take}
+use Rattle.lexis.specs.Sizes.{maxTokens, maxBrackets}
 use Rattle.lexis.specs.Lexer.{accepted, lex}
 use Rattle.syntax.specs.Tree.{Header}
 use Rattle.syntax.specs.Parser.{parseList}
@@ -11,7 +11,7 @@ use Rattle.syntax.specs.Parser.Parse.{ok}
 use Rattle.syntax.specs.Table.{toks, Holds}
 use Rattle.lists.specs.Fault as F
 use Rattle.lists.specs.ListRules.{listFaults}
-use Rattle.lists.specs.Lists.{tableOf, Heads, NamePlaces}
+use Rattle.lists.specs.Lists.{Heads, NamePlaces}
 use Rattle.lists.specs.Answer.{pass, stop, rulesStage, listStages}
 use Rattle.lists.specs.declared.list.Listed.{Listed}
 use Rattle.lists.specs.declared.list.Listed.the-variants.{Passed, Stopped}
@@ -19,17 +19,13 @@ use Rattle.lists.specs.declared.list.Listed.the-variants.{Passed, Stoppe
 -- the tokens of the text stand in the table, and they are a list; its rules are the stage that is left
 pub record ListRead (text work : List ℕ) (n : ℕ) : Type 0 where
   pub headers : List Header
-  pub lexed : lex text ≡ accepted (toks text (tableOf work) n 0)
-  pub table : Holds text (tableOf work) n
-  pub parsed : parseList (toks text (tableOf work) n 0) ≡ ok headers []
+  pub lexed : lex text ≡ accepted (toks text work n 0)
+  pub table : Holds text work n
+  pub parsed : parseList (toks text work n 0) ≡ ok headers []
   pub stages : listStages text ≡ rulesStage 1 headers (F.first (listFaults headers))
 
--- the k words behind the table
-abbrev pub directoryOf : List ℕ → ℕ → List ℕ
-directoryOf work k = take k (drop scratchStart work)
-
--- the list has passed its stages; it has n tokens and k operations
-pub record ListPassed (text work : List ℕ) (n k : ℕ) : Type 0 where
+-- the list has passed its stages; it has n tokens and k operations, whose directory is in front of `names`
+pub record ListPassed (text work names : List ℕ) (n k : ℕ) : Type 0 where
   pub headers : List Header
   pub stages : listStages text ≡ pass headers
   pub count : length headers ≡ k
@@ -38,10 +34,10 @@ pub record ListPassed (text work : List ℕ) (n k : ℕ) : Type 0 where
   pub lexed : lex text ≡ accepted (toks text work n 0)
   pub table : Holds text work n
   pub parsed : parseList (toks text work n 0) ≡ ok headers []
-  pub places : NamePlaces n (directoryOf work k)
-  pub heads : Heads text work n maxBrackets (directoryOf work k) headers
+  pub places : NamePlaces n (take k names)
+  pub heads : Heads text work n maxBrackets (take k names) headers
 
 -- what the stages come to
-abbrev pub ListDone : List ℕ → List ℕ → Listed → Type 0
-ListDone text work (Passed n k) = ListPassed text work n k
-ListDone text work (Stopped r) = listStages text ≡ stop r
+abbrev pub ListDone : List ℕ → List ℕ → List ℕ → Listed → Type 0
+ListDone text work names (Passed n k) = ListPassed text work names n k
+ListDone text work names (Stopped r) = listStages text ≡ stop r

@@ -1,7 +1,7 @@
 // Whether a value fits a type, and a left side the results of an operation. Value and type stand in two token tables.
 use lexis::kind::Kind;
 use lexis::limits::Limits;
-use syntax::symbol::Symbol;
+use lexis::symbol::Symbol;
 use syntax::symbol::symbol_at;
 ghost use mathlib.Core.Path.{_≡_};
 ghost use mathlib.Core.Bool.{true, false};
@@ -12,7 +12,7 @@ ghost use Rattle.lexis.specs.Ascii.{byte};
 ghost use Rattle.lexis.specs.Sizes.{maxExtent};
 ghost use Rattle.lexis.specs.Number.{valueFrom};
 ghost use Rattle.lexis.specs.Lexer.{Token};
-ghost use Rattle.syntax.specs.Symbol.{rightRound, comma};
+ghost use Rattle.lexis.specs.Symbol.{rightRound, comma};
 ghost use Rattle.syntax.specs.Tree.{Value, Ty, Tys, Result};
 ghost use Rattle.syntax.specs.Tree.Ty.{tupleOf};
 ghost use Rattle.syntax.specs.Grammar.{Leaves, Dims, IsType};

@@ -56,7 +56,8 @@ fn list_answer(list: &[u8], work: &mut [u32]) -> Answer
     ensures { λ _. ⌜ length (now (work .exit)) ≡ length (now (work .entry)) ⌝ }
 {
     let classes = CLASSES;
-    match list_stages(&classes, list, work) {
+    let mut names = [0u32; Limits::TOKENS];
+    match list_stages(&classes, list, work, &mut names) {
         Listed::Passed(_n, k) => Answer {
             code: Code::ACCEPTED,
             text: 0,

@@ -3,7 +3,6 @@ use crate::headers::list_rules;
 use crate::operation::directory;
 use lexis::Answer;
 use lexis::Counted;
-use lexis::limits::Limits;
 use syntax::Syntax;
 use syntax::read;
 ghost use mathlib.Core.Path.{_≡_};
@@ -19,21 +18,16 @@ pub enum Listed {
     Stopped(Answer),
 }
 
-// The rules of the list of n tokens in the table in front of a work area. Leaves the directory behind the table.
-fn rules_stage(text: &[u8], work: &mut [u32], n: usize) -> Listed
+// The rules of the list of n tokens in a work area. Leaves its directory in front of `names`.
+fn rules_stage(text: &[u8], work: &[u32], n: usize, names: &mut [u32]) -> Listed
     requires { ⌜ ListRead (now text) (now work) n ⌝ }
     requires { ⌜ length (now text) ≤ maxText ⌝ }
-    requires { ⌜ (n ≤ maxTokens) × (workWords ≤ length (now work)) ⌝ }
-    ensures { λ r. ⌜ ListDone (now (text .entry)) (now (work .exit)) r ⌝ }
-    ensures { λ _. ⌜ length (now (work .exit)) ≡ length (now (work .entry)) ⌝ }
+    requires { ⌜ (n ≤ maxTokens) × (maxTokens ≤ length (now names)) ⌝ }
+    ensures { λ r. ⌜ ListDone (now (text .entry)) (now (work .entry)) (now (names .exit)) r ⌝ }
+    ensures { λ _. ⌜ length (now (names .exit)) ≡ length (now (names .entry)) ⌝ }
 {
-    let k = directory(text, &mut *work, n);
-    let best = list_rules(
-        text,
-        &work[0..Limits::SCRATCH_START],
-        n,
-        &work[Limits::SCRATCH_START..Limits::SCRATCH_START + k],
-    );
+    let k = directory(text, work, n, &mut *names);
+    let best = list_rules(text, work, n, &names[0..k]);
     if best.code == 0 {
         return Listed::Passed(n, k);
     }
@@ -45,16 +39,17 @@ fn rules_stage(text: &[u8], work: &mut [u32], n: usize) -> Listed
     })
 }
 
-// The three stages of a list. Where it passes, the work area holds its table and its directory; else anything.
-pub fn list_stages(classes: &[u8; 256], text: &[u8], work: &mut [u32]) -> Listed
+// The three stages of a list. Where it passes, the work area holds its table, and `names` begins with its directory; else anything.
+pub fn list_stages(classes: &[u8; 256], text: &[u8], work: &mut [u32], names: &mut [u32]) -> Listed
     requires { ⌜ now classes ≡ classTable ⌝ }
     requires { ⌜ length (now text) ≤ maxText ⌝ }
-    requires { ⌜ workWords ≤ length (now work) ⌝ }
-    ensures { λ r. ⌜ ListDone (now (text .entry)) (now (work .exit)) r ⌝ }
+    requires { ⌜ (workWords ≤ length (now work)) × (maxTokens ≤ length (now names)) ⌝ }
+    ensures { λ r. ⌜ ListDone (now (text .entry)) (now (work .exit)) (now (names .exit)) r ⌝ }
     ensures { λ _. ⌜ length (now (work .exit)) ≡ length (now (work .entry)) ⌝ }
+    ensures { λ _. ⌜ length (now (names .exit)) ≡ length (now (names .entry)) ⌝ }
 {
     match read(classes, text, &mut *work, Syntax::List) {
-        Counted::Tokens(n) => rules_stage(text, work, n as usize),
+        Counted::Tokens(n) => rules_stage(text, work, n as usize, names),
         Counted::Fault { code, at } => Listed::Stopped(Answer {
             code: code,
             text: 1,

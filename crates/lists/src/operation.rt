@@ -1,17 +1,16 @@
-// The operations of a list: a directory of their names behind its table, and the look-up of a name there.
+// The operations of a list: a directory of their names, and the look-up of a name there.
 use crate::scan::next_of;
 use crate::word::alike;
 use crate::word::word;
-use lexis::limits::Limits;
-use syntax::symbol::Symbol;
+use lexis::symbol::Symbol;
 ghost use mathlib.Core.Path.{_≡_};
 ghost use mathlib.Core.List.{List};
 ghost use Prim.Native.Nat.{ℕ, _<_, _≤_};
 ghost use lib.ListN.{length};
-ghost use Rattle.lexis.specs.Sizes.{maxTokens, workWords};
+ghost use Rattle.lexis.specs.Sizes.{maxTokens};
 ghost use Rattle.syntax.specs.Tree.{Header};
 ghost use Rattle.syntax.specs.Table.{tokenAt, Holds};
-ghost use Rattle.lists.specs.Lists.{tableOf, HasList, Heads, NamePlaces, Directory, lookupFrom, entries};
+ghost use Rattle.lists.specs.Lists.{HasList, Heads, NamePlaces, Directory, lookupFrom, entries};
 ghost use Rattle.lists.specs.Found.{found};
 
 // Where an operation stands in the directory.
@@ -20,25 +19,19 @@ pub enum Lookup {
     Missing,
 }
 
-// Stores the place of each operation's name behind the table, and gives their number.
-pub fn directory(text: &[u8], work: &mut [u32], n: usize) -> usize
-    requires { ⌜ Holds (now text) (tableOf (now work)) n ⌝ }
-    requires { ⌜ HasList (now text) (tableOf (now work)) n ⌝ }
-    requires { ⌜ (n ≤ maxTokens) × (workWords ≤ length (now work)) ⌝ }
-    ensures { λ r. ⌜ Directory (now (text .entry)) (now (work .entry)) (now (work .exit)) n r ⌝ }
+// Stores the place of each operation's name, and gives their number.
+pub fn directory(text: &[u8], table: &[u32], n: usize, names: &mut [u32]) -> usize
+    requires { ⌜ Holds (now text) (now table) n ⌝ }
+    requires { ⌜ HasList (now text) (now table) n ⌝ }
+    requires { ⌜ (n ≤ maxTokens) × (maxTokens ≤ length (now names)) ⌝ }
+    ensures { λ r. ⌜ Directory (now (text .entry)) (now (table .entry)) (now (names .entry)) (now (names .exit)) n r ⌝ }
 {
     let mut at = 0;
     let mut k = 0;
     while at < n {
-        work[Limits::SCRATCH_START + k] = (at + 1) as u32;
+        names[k] = (at + 1) as u32;
         k += 1;
-        at = next_of(
-            text,
-            &work[0..Limits::SCRATCH_START],
-            n,
-            at + 1,
-            Symbol::FRAGMENT,
-        );
+        at = next_of(text, table, n, at + 1, Symbol::FRAGMENT);
     }
     k
 }

@@ -1,16 +1,18 @@
--- A table in front of which the records of some tokens were stored holds those tokens. Assumes nothing.
+-- A table in front of which the records of some tokens were stored, and behind them their terminals, holds those tokens. Assumes nothing.
 use mathlib.Core.Path.{_≡_, refl, sym, ap, ap₂, subst, _∙_}
 use Prim.Native.Nat.{ℕ, zero, suc, _+_, _-_, _*_, _<_, _≤_}
 use native.Mathlib.Omega.{arith}
-use native.Mathlib.Nat.{eq-or-lt-of-le}
+use native.Mathlib.Nat.{eq-or-lt-of-le, add-zero}
 use mathlib.Core.List.{List, [], _∷_, _++_}
 use mathlib.Core.Logic.{_⊎_, inl, inr}
-use lib.ListN.{length, getD, take, drop}
-use lib.Seq.{getD-drop, drop-drop, sets, sets-eq, length-sets}
+use lib.ListN.{length, getD, take, drop, set, length-append}
+use lib.Seq.{getD-drop, getD-take, drop-drop, length-take-le, take-at, getD-append-add, sets, sets-eq, length-sets}
 use Rattle.lexis.specs.Lexer.{Token, Placed}
 use Rattle.lexis.specs.Lexer.Placed.{none, next}
+use Rattle.lexis.specs.Symbol.{symOf, symbols}
 use Rattle.lexis.specs.Answer.{records}
-use Rattle.lexis.specs.Sizes.{recordWords}
+use Rattle.lexis.specs.Sizes.{maxTokens, recordWords, firstMark, workWords}
+use Rattle.lexis.proofs.Laid.{records-length, sets-set}
 use Rattle.syntax.specs.Table.{startAt, endAt, tokenAt, tokensFrom, toks, Holds}
 
 -- ---- the records of tokens, at a place of the table
@@ -56,24 +58,71 @@ module _ (text table : List ℕ) where
           subst (λ (n : ℕ). (startAt table n < endAt table n) × (endAt table n ≤ length text)) z (omega (arith, s, m), omega (arith, s, m))
       go (inr z) f = f z
 
-records-length : (ts : List Token) → length (records ts) ≡ length ts * recordWords
-unfolding records
-records-length [] = refl
-records-length (t ∷ ts) = let h = records-length ts in omega arith
+  -- ---- the marks
+
+  -- the terminals of k tokens from place i on
+  symbols-from : (i k j : ℕ) → j < k → getD (symbols (tokensFrom text table i k)) j 0 ≡ symOf (tokenAt text table (i + j))
+  unfolding tokensFrom symbols
+  symbols-from i zero j h = absurd (omega arith)
+  symbols-from i (suc k) zero h = ap (λ (m : ℕ). symOf (tokenAt text table m)) (sym (add-zero i))
+  symbols-from i (suc k) (suc j) h =
+      let q : i + 1 + j ≡ i + suc j = omega arith in
+      symbols-from (i + 1) k j (omega arith) ∙ ap (λ (m : ℕ). symOf (tokenAt text table m)) q
+
+symbols-length : (ts : List Token) → length (symbols ts) ≡ length ts
+unfolding symbols
+symbols-length [] = refl
+symbols-length (t ∷ ts) = ap suc (symbols-length ts)
+
+-- a word of a row that was stored
+stored-word : (vs l : List ℕ) (at i : ℕ) → at + length vs ≤ length l → i < length vs → getD (sets l at vs) (at + i) 0 ≡ getD vs i 0
+stored-word vs l at i r h =
+    let front : length (take at l) ≡ at = length-take-le at l (omega arith) in
+    let here : at + i ≡ length (take at l) + i = omega arith in
+    let both : length (take at l ++ vs) ≡ at + length vs = length-append (take at l) vs ∙ ap (λ (m : ℕ). m + length vs) front in
+    let rest = drop (at + length vs) l in
+    ap (λ (x : List ℕ). getD x (at + i) 0) (sets-eq vs l at r)
+    ∙ sym (getD-take (at + length vs) (take at l ++ vs ++ rest) (at + i) 0 (omega arith))
+    ∙ ap (λ (x : List ℕ). getD x (at + i) 0) (take-at (take at l ++ vs) rest (at + length vs) both)
+    ∙ ap (λ (m : ℕ). getD (take at l ++ vs) m 0) here
+    ∙ getD-append-add (take at l) vs i 0
+
+-- records stored in front of marks, or marks behind records
+sets-sets : (ss rs l : List ℕ) (at i : ℕ) → at + length rs ≤ i → sets (sets l at rs) i ss ≡ sets (sets l i ss) at rs
+sets-sets [] rs l at i h = refl
+sets-sets (s ∷ ss) rs l at i h = ap (λ (x : List ℕ). sets x (suc i) ss) (sym (sets-set rs l at i s h)) ∙ sets-sets ss rs (set l i s) at (suc i) (omega arith)
 
 -- ---- the whole table
 
-module _ (text before : List ℕ) (ts : List Token) (placed : Placed text 0 ts) (room : length ts * recordWords ≤ length before) where
-  stored-is : sets before 0 (records ts) ≡ records ts ++ drop (0 + length (records ts)) before
-  stored-is = sets-eq (records ts) before 0 (omega (arith, records-length ts))
+module _ (text before : List ℕ) (ts : List Token) (placed : Placed text 0 ts) (few : length ts ≤ maxTokens) (room : workWords ≤ length before) where
+  -- what the lexer leaves
+  abbrev pub table : List ℕ
+  table = sets (sets before 0 (records ts)) firstMark (symbols ts)
 
-  pub holds : Holds text (sets before 0 (records ts)) (length ts)
-  holds = record {
-    room = omega (arith, length-sets before 0 (records ts));
-    within = λ i l. within-is text (sets before 0 (records ts)) 0 ts _ placed stored-is i (omega arith) (omega arith);
-  }
+  stored-is : table ≡ records ts ++ drop (0 + length (records ts)) (sets before firstMark (symbols ts))
+  stored-is =
+      sets-sets (symbols ts) (records ts) before 0 firstMark (omega (arith, records-length ts))
+      ∙ sets-eq (records ts) (sets before firstMark (symbols ts)) 0 (omega (arith, records-length ts, length-sets before firstMark (symbols ts)))
 
-  pub decode : toks text (sets before 0 (records ts)) (length ts) 0 ≡ ts
+  table-length : length table ≡ length before
+  table-length = length-sets (sets before 0 (records ts)) firstMark (symbols ts) ∙ length-sets before 0 (records ts)
+
+  pub decode : toks text table (length ts) 0 ≡ ts
   decode =
       let z : length ts - 0 ≡ length ts = omega arith in
-      ap (λ (n : ℕ). tokensFrom text (sets before 0 (records ts)) 0 n) z ∙ from-is text (sets before 0 (records ts)) 0 ts _ placed stored-is
+      ap (λ (n : ℕ). tokensFrom text table 0 n) z ∙ from-is text table 0 ts _ placed stored-is
+
+  mark-is : (i : ℕ) → i < length ts → getD table (firstMark + i) 0 ≡ symOf (tokenAt text table i)
+  mark-is i l =
+      let z : 0 + i ≡ i = omega arith in
+      stored-word (symbols ts) (sets before 0 (records ts)) firstMark i (omega (arith, symbols-length ts, length-sets before 0 (records ts))) (omega (arith, symbols-length ts))
+      ∙ (ap (λ (us : List Token). getD (symbols us) i 0) (sym decode)
+      ∙ (symbols-from text table 0 (length ts - 0) i (omega arith) ∙ ap (λ (m : ℕ). symOf (tokenAt text table m)) z))
+
+  pub holds : Holds text table (length ts)
+  holds = record {
+    room = omega (arith, table-length);
+    behind = omega (arith, table-length);
+    within = λ i l. within-is text table 0 ts _ placed stored-is i (omega arith) (omega arith);
+    mark = mark-is;
+  }

@@ -12,7 +12,7 @@ use Rattle.lexis.specs.Lexer.{Token}
 use Rattle.syntax.specs.declared.Parsed.{Parsed}
 use Rattle.syntax.specs.declared.Parsed.the-variants.{Done, Fault}
 use Rattle.syntax.specs.declared.list.Item.the-variants.{Name, Argument}
-use Rattle.syntax.specs.Symbol.{symOf, leftRound, rightRound, leftCurly, rightCurly, equal, comma, semicolon, arrow, aName, aNumber, version, graph}
+use Rattle.lexis.specs.Symbol.{symOf, leftRound, rightRound, leftCurly, rightCurly, equal, comma, semicolon, arrow, aName, aNumber, version, graph}
 use Rattle.syntax.specs.Tree.{Value, Call}
 use Rattle.syntax.specs.Tree.Value.{tuple}
 use Rattle.syntax.specs.Tree.Values.{more}

@@ -7,7 +7,7 @@ use Rattle.lexis.specs.Sizes.{maxBrackets}
 use Rattle.lexis.specs.Lexer.{Token}
 use Rattle.syntax.specs.declared.Parsed.the-variants.{Done}
 use Rattle.syntax.specs.declared.list.Item.the-variants.{Parameter, Result}
-use Rattle.syntax.specs.Symbol.{leftRound, rightRound, arrow, aName, fragment}
+use Rattle.lexis.specs.Symbol.{leftRound, rightRound, arrow, aName, fragment}
 use Rattle.syntax.specs.Tree.{Header}
 use Rattle.syntax.specs.Parser.{mapped, row, plain, commas, to-the-end, follow, onward, header, operations}
 use Rattle.syntax.specs.Parser.Parse.{ok}

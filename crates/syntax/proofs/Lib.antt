@@ -17,7 +17,6 @@ pub mod Tails
 pub mod Table
 pub mod Decode
 pub mod Chain
-pub mod Keywords
 pub mod Symbols
 pub mod Rows
 pub mod Values

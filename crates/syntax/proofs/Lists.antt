@@ -14,7 +14,7 @@ use Rattle.syntax.specs.declared.Parsed.{Parsed}
 use Rattle.syntax.specs.declared.Parsed.the-variants.{Done}
 use Rattle.syntax.specs.declared.list.Item.{Item}
 use Rattle.syntax.specs.declared.list.Item.the-variants.{Name, Parameter, Result, Argument}
-use Rattle.syntax.specs.Symbol.{symOf, isLiteral, leftRound, rightRound, leftSquare, colon, equal, aName}
+use Rattle.lexis.specs.Symbol.{symOf, isLiteral, leftRound, rightRound, leftSquare, colon, equal, aName}
 use Rattle.syntax.specs.Tree.{Value, Values}
 use Rattle.syntax.specs.Tree.Value.{name, literal, array, tuple}
 use Rattle.syntax.specs.Tree.Arg.{named}

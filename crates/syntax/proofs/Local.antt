@@ -9,7 +9,7 @@ use native.Mathlib.Omega.{arith}
 use lib.Dec.{eqb}
 use lib.ListN.{length}
 use Rattle.lexis.specs.Lexer.{Token}
-use Rattle.syntax.specs.Symbol.{symOf, comma}
+use Rattle.lexis.specs.Symbol.{symOf, comma}
 use Rattle.syntax.specs.Fault.{Alike}
 use Rattle.syntax.specs.Fault.Alike.{both-end, both-begin}
 use Rattle.syntax.specs.Parser.{Parse, Reader, Row, Lists, then, mapped, expect, begins, rest, follow, onward, row}

@@ -1,6 +1,6 @@
 -- From the bytes of a text to its syntax. Relies on `lexis` for the places of the tokens, on `Decode` for the table. Assumes nothing.
 use mathlib.Core.Path.{_≡_, refl, sym, ap, subst, _∙_}
-use Prim.Native.Nat.{ℕ, _+_, _-_, _*_, _≤_}
+use Prim.Native.Nat.{ℕ, _+_, _-_, _≤_}
 use native.Mathlib.Omega.{arith}
 use mathlib.Core.Bool.{Bool, true, false}
 use mathlib.Core.List.{List, [], _∷_}
@@ -10,7 +10,7 @@ use borrow.Author.Tests.{leb-true, leb-false}
 use Rattle.lexis.specs.Lexer.{Token, Lexed, accepted, refused, lex}
 use Rattle.lexis.specs.Answer.{counted}
 use Rattle.lexis.specs.Work.{Recorded, Room}
-use Rattle.lexis.specs.Sizes.{recordWords}
+use Rattle.lexis.specs.Sizes.{maxTokens, workWords}
 use Rattle.lexis.specs.declared.Counted.{Counted}
 use Rattle.lexis.specs.declared.Counted.the-variants as C
 use Rattle.lexis.proofs.Theorems.{placed}
@@ -42,22 +42,22 @@ pub room-of : (m : ℕ) {x : Counted} {n : ℕ} → Room x m → x ≡ C.Tokens 
 room-of m room e = subst (λ (y : Counted). Room y m) e room
 
 module _ (text before after : List ℕ) where
-  got-by : (l : Lexed) (n : ℕ) → lex text ≡ l → C.Tokens n ≡ counted l → Recorded l before after → n * recordWords ≤ length before → Got text after n
-  got-by (accepted ts) n e h w room =
+  got-by : (l : Lexed) (n : ℕ) → lex text ≡ l → C.Tokens n ≡ counted l → Recorded true l before after → n ≤ maxTokens → workWords ≤ length before → Got text after n
+  got-by (accepted ts) n e h w few room =
       let m : n ≡ length ts = let z : n ≡ 0 + length ts = cc in omega arith in
       let p = placed text ts e in
-      let r : length ts * recordWords ≤ length before = omega arith in
+      let r : length ts ≤ maxTokens = omega arith in
       record {
         tokens = ts;
         is = e;
         count = m;
-        table = subst (λ (k : ℕ). Holds text after k) (sym m) (subst (λ (x : List ℕ). Holds text x (length ts)) (sym w) (holds text before ts p r));
-        decoded = ap (λ (k : ℕ). toks text after k 0) m ∙ (ap (λ (x : List ℕ). toks text x (length ts) 0) w ∙ decode text before ts p r);
+        table = subst (λ (k : ℕ). Holds text after k) (sym m) (subst (λ (x : List ℕ). Holds text x (length ts)) (sym w) (holds text before ts p r room));
+        decoded = ap (λ (k : ℕ). toks text after k 0) m ∙ (ap (λ (x : List ℕ). toks text x (length ts) 0) w ∙ decode text before ts p r room);
       }
-  got-by (refused c p) n e h w room = let z : _≡_ {A = ℕ} 0 1 = cc in absurd (omega arith)
+  got-by (refused c p) n e h w few room = let z : _≡_ {A = ℕ} 0 1 = cc in absurd (omega arith)
 
-  pub got : (x : Counted) (n : ℕ) → x ≡ counted (lex text) → Recorded (lex text) before after → Room x (length before) → x ≡ C.Tokens n → Got text after n
-  got x n h w room e = got-by (lex text) n refl (sym e ∙ h) w (room-of (length before) room e .1)
+  pub got : (x : Counted) (n : ℕ) → x ≡ counted (lex text) → Recorded true (lex text) before after → Room x (length before) → workWords ≤ length before → x ≡ C.Tokens n → Got text after n
+  got x n h w few room e = got-by (lex text) n refl (sym e ∙ h) w (room-of (length before) few e .0) room
 
 -- ---- answers
 

@@ -10,7 +10,7 @@ use lib.Dec.{eqb}
 use lib.ListN.{length, length-append}
 use borrow.Author.Tests.{eqb-true}
 use Rattle.lexis.specs.Lexer.{Token}
-use Rattle.syntax.specs.Symbol.{symOf, comma}
+use Rattle.lexis.specs.Symbol.{symOf, comma}
 use Rattle.syntax.specs.Parser.{Parse, then, mapped, Reader, expect, begins, rest, Row, Follow, follow, onward, Lists, rowF, row}
 use Rattle.syntax.specs.Parser.Parse.{ok, bad}
 use Rattle.syntax.specs.Parser.Row.{commas, closed, to-the-end}

@@ -9,7 +9,7 @@ use native.Mathlib.Omega.{arith}
 use lib.Dec.{eqb}
 use lib.ListN.{length}
 use Rattle.lexis.specs.Lexer.{Token}
-use Rattle.syntax.specs.Symbol.{symOf, comma}
+use Rattle.lexis.specs.Symbol.{symOf, comma}
 use Rattle.syntax.specs.Parser.{Parse, Reader, Row, Follow, Lists, then, mapped, follow, onward, rowF, row}
 use Rattle.syntax.specs.Parser.Parse.{ok, bad}
 use Rattle.syntax.specs.Parser.Row.{commas, closed, to-the-end}

@@ -8,7 +8,7 @@ use borrow.Author.Tests.{eq-eqb, ne-eqb}
 use Rattle.lexis.specs.Lexer.{Token}
 use Rattle.syntax.specs.declared.Parsed.{Parsed}
 use Rattle.syntax.specs.declared.Parsed.the-variants.{Done, Fault}
-use Rattle.syntax.specs.Symbol.{symOf, comma}
+use Rattle.lexis.specs.Symbol.{symOf, comma}
 use Rattle.syntax.specs.Parser.{Reader, Lists, mapped, expect, rest, row, follow, onward, commas}
 use Rattle.syntax.specs.Parser.Parse.{ok, bad}
 use Rattle.syntax.specs.Parser.Follow.{again, done, neither}

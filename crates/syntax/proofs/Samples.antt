@@ -7,7 +7,7 @@ use Prim.Native.String.{String}
 use Rattle.lexis.specs.Ascii.{ascii}
 use Rattle.lexis.specs.Words.{sameBytes}
 use Rattle.lexis.specs.Lexer.{Token}
-use Rattle.syntax.specs.Symbol.{symOf, symbolOf, keywordSymbol, arrow, aName, aNumber, aLiteral, version, graph, fragment, tensorWord, extentWord, scalarWord, logicalWord, stringWord}
+use Rattle.lexis.specs.Symbol.{symOf, symbolOf, terminals, symbolIn, keywordSymbol, arrow, aName, aNumber, aLiteral, version, graph, fragment, tensorWord, extentWord, scalarWord, logicalWord, stringWord}
 
 -- a token that is the terminal s
 pub record Sample (s : ℕ) : Type 0 where
@@ -41,33 +41,33 @@ unfolding symOf symbolOf
 keyword w e = record { token = record { kind = 6; start = 0; bytes = ascii w }; is = e }
 
 pub version-token : Sample version
-unfolding keywordSymbol sameBytes
+unfolding terminals symbolIn sameBytes
 version-token = keyword "version" refl
 
 pub graph-token : Sample graph
-unfolding keywordSymbol sameBytes
+unfolding terminals symbolIn sameBytes
 graph-token = keyword "graph" refl
 
 pub fragment-token : Sample fragment
-unfolding keywordSymbol sameBytes
+unfolding terminals symbolIn sameBytes
 fragment-token = keyword "fragment" refl
 
 pub tensor-token : Sample tensorWord
-unfolding keywordSymbol sameBytes
+unfolding terminals symbolIn sameBytes
 tensor-token = keyword "tensor" refl
 
 pub extent-token : Sample extentWord
-unfolding keywordSymbol sameBytes
+unfolding terminals symbolIn sameBytes
 extent-token = keyword "extent" refl
 
 pub scalar-token : Sample scalarWord
-unfolding keywordSymbol sameBytes
+unfolding terminals symbolIn sameBytes
 scalar-token = keyword "scalar" refl
 
 pub logical-token : Sample logicalWord
-unfolding keywordSymbol sameBytes
+unfolding terminals symbolIn sameBytes
 logical-token = keyword "logical" refl
 
 pub string-token : Sample stringWord
-unfolding keywordSymbol sameBytes
+unfolding terminals symbolIn sameBytes
 string-token = keyword "string" refl

@@ -10,7 +10,7 @@ use native.Mathlib.Omega.{arith}
 use lib.Dec.{eqb}
 use lib.ListN.{length}
 use Rattle.lexis.specs.Lexer.{Token}
-use Rattle.syntax.specs.Symbol.{symOf, isLiteral, leftRound, leftSquare, rightSquare, colon, equal, comma, semicolon, arrow, aName, fragment}
+use Rattle.lexis.specs.Symbol.{symOf, isLiteral, leftRound, leftSquare, rightSquare, colon, equal, comma, semicolon, arrow, aName, fragment}
 use Rattle.syntax.specs.Tree.{Value, Ty}
 use Rattle.syntax.specs.Tree.Value.{name, literal, array, tuple}
 use Rattle.syntax.specs.Tree.Ty.{arrayOf}

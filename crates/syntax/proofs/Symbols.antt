@@ -1,44 +1,29 @@
 -- The terminal and the place of the token at a place of a table. Assumes nothing.
-use mathlib.Core.Path.{_≡_, refl, sym, ap, ap₂, _∙_}
+use mathlib.Core.Path.{_≡_, refl, sym, ap, _∙_}
 use mathlib.Core.Bool.{Bool, true, false}
 use Prim.Native.Nat.{ℕ, _+_, _-_, _<_, _≤_}
-use native.Mathlib.Nat.{add-zero}
 use native.Mathlib.Omega.{arith}
 use mathlib.Core.List.{List, [], _∷_}
 use lib.Dec.{eqb, leb}
-use lib.ListN.{length, getD, take, drop}
-use lib.Seq.{getD-take, getD-drop}
+use lib.ListN.{length, getD}
 use borrow.Author.Tests.{leb-true, leb-false, eq-eqb, ne-eqb}
 use Rattle.lexis.specs.Lexer.{Token}
+use Rattle.lexis.specs.Sizes.{firstMark}
 use Rattle.syntax.specs.declared.Parsed.the-variants.{Done, Fault}
-use Rattle.syntax.specs.Symbol.{symOf, symbolOf}
+use Rattle.lexis.specs.Symbol.{symOf}
 use Rattle.syntax.specs.Parser.{Reader, begins, rest, expect}
 use Rattle.syntax.specs.Parser.Parse.{bad}
-use Rattle.syntax.specs.Table.{kindAt, startAt, endAt, tokenAt, toks, placeOf, parsed}
+use Rattle.syntax.specs.Table.{startAt, tokenAt, toks, Holds, placeOf, parsed}
 use Rattle.syntax.specs.Inner.{theEnd, lookahead}
 use Rattle.syntax.proofs.Chain.{clash}
 use Rattle.syntax.proofs.Table.{toks-none, toks-more, toks-length, toks-rest}
-
-first-byte : (text : List ℕ) (s e : ℕ) → s < e → getD (take (e - s) (drop s text)) 0 0 ≡ getD text s 0
-first-byte text s e h = getD-take (e - s) (drop s text) 0 0 (omega arith) ∙ (getD-drop s text 0 0 ∙ ap (λ (k : ℕ). getD text k 0) (add-zero s))
-
--- a syntactic character is its first byte
-pub mark-is : (text : List ℕ) (k s e : ℕ) → k ≡ 8 → s < e → getD text s 0 ≡ symbolOf k (take (e - s) (drop s text))
-unfolding symbolOf
-mark-is text k s e h l = simp h (sym (first-byte text s e l))
-
--- a token of a kind that is none of those that have a terminal
-pub other-is : (k : ℕ) (w : List ℕ) → (k ≡ 1 → ⊥) → (k ≡ 2 → ⊥) → (k ≡ 3 → ⊥) → (k ≡ 4 → ⊥) → (k ≡ 5 → ⊥) → (k ≡ 6 → ⊥) → (k ≡ 8 → ⊥) → 0 ≡ symbolOf k w
-unfolding symbolOf
-other-is k w a b c d e f g = simp (ne-eqb k 1 a, ne-eqb k 2 b, ne-eqb k 3 c, ne-eqb k 4 d, ne-eqb k 5 e, ne-eqb k 6 f, ne-eqb k 8 g)
 
 module _ (text table : List ℕ) (n i : ℕ) where
   pub look-none : n ≤ i → theEnd ≡ lookahead (toks text table n i)
   look-none h = sym (ap lookahead (toks-none text table n i h))
 
-  pub look-more : i < n → (s e : ℕ) → s ≡ startAt table i → e ≡ endAt table i → symbolOf (kindAt table i) (take (e - s) (drop s text)) ≡ lookahead (toks text table n i)
-  unfolding symOf tokenAt
-  look-more h s e p q = ap₂ (λ (x y : ℕ). symbolOf (kindAt table i) (take (y - x) (drop x text))) p q ∙ sym (ap lookahead (toks-more text table n i h))
+  pub look-more : Holds text table n → i < n → getD table (firstMark + i) 0 ≡ lookahead (toks text table n i)
+  look-more h l = h .mark i l ∙ sym (ap lookahead (toks-more text table n i l))
 
   pub place-none : n ≤ i → length text ≡ placeOf (length text) (toks text table n i)
   place-none h = sym (ap (placeOf (length text)) (toks-none text table n i h))

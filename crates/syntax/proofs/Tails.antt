@@ -8,7 +8,7 @@ use lib.Dec.{eqb}
 use lib.ListN.{length}
 use Rattle.lexis.specs.Sizes.{maxBrackets}
 use Rattle.lexis.specs.Lexer.{Token}
-use Rattle.syntax.specs.Symbol.{symOf, isLiteral, leftRound, leftSquare, rightSquare, colon, equal, comma, semicolon, leftCurly, arrow, aName, aNumber, version, graph, fragment}
+use Rattle.lexis.specs.Symbol.{symOf, isLiteral, leftRound, leftSquare, rightSquare, colon, equal, comma, semicolon, leftCurly, arrow, aName, aNumber, version, graph, fragment}
 use Rattle.syntax.specs.Tree.{Value, Ty}
 use Rattle.syntax.specs.Tree.Value.{name, literal, array, tuple}
 use Rattle.syntax.specs.Tree.Ty.{arrayOf}

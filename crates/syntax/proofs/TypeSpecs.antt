@@ -12,7 +12,7 @@ use borrow.Author.Tests.{eq-eqb, ne-eqb, lt-ltb, le-ltb}
 use Rattle.lexis.specs.Lexer.{Token}
 use Rattle.syntax.specs.declared.Parsed.{Parsed}
 use Rattle.syntax.specs.declared.Parsed.the-variants.{Done, Fault}
-use Rattle.syntax.specs.Symbol.{symOf, leftRound, rightRound, leftSquare, rightSquare, comma, tensorWord, extentWord, scalarWord, logicalWord, stringWord}
+use Rattle.lexis.specs.Symbol.{symOf, leftRound, rightRound, leftSquare, rightSquare, comma, tensorWord, extentWord, scalarWord, logicalWord, stringWord}
 use Rattle.syntax.specs.Tree.{Ty}
 use Rattle.syntax.specs.Tree.Ty.{tensor, extent, scalar, logical, string, arrayOf, tupleOf}
 use Rattle.syntax.specs.Tree.Tys.{a-type}

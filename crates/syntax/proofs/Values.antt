@@ -10,7 +10,7 @@ use borrow.Author.Tests.{eq-eqb, ne-eqb}
 use Rattle.lexis.specs.Lexer.{Token}
 use Rattle.syntax.specs.declared.Parsed.{Parsed}
 use Rattle.syntax.specs.declared.Parsed.the-variants.{Done, Fault}
-use Rattle.syntax.specs.Symbol.{symOf, isLiteral, rightRound, leftSquare, rightSquare, comma, aName, aNumber, aLiteral}
+use Rattle.lexis.specs.Symbol.{symOf, isLiteral, rightRound, leftSquare, rightSquare, comma, aName, aNumber, aLiteral}
 use Rattle.syntax.specs.Tree.{Value}
 use Rattle.syntax.specs.Tree.Value.{name, literal, array, tuple}
 use Rattle.syntax.specs.Tree.Values.{none, more}

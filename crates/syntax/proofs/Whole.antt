@@ -7,7 +7,7 @@ use Prim.Native.Nat.{ℕ, zero, suc, _≤_, max}
 use native.Mathlib.Omega.{arith}
 use lib.ListN.{length}
 use Rattle.lexis.specs.Lexer.{Token}
-use Rattle.syntax.specs.Symbol.{leftRound, rightRound, leftCurly, rightCurly, arrow, aName, aNumber, version, graph}
+use Rattle.lexis.specs.Symbol.{leftRound, rightRound, leftCurly, rightCurly, arrow, aName, aNumber, version, graph}
 use Rattle.syntax.specs.Grammar.{IsList, IsDocument}
 use Rattle.syntax.specs.Fault.{Alike, FirstFault}
 use Rattle.syntax.specs.Fault.Alike.{both-end, both-begin}

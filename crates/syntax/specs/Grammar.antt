@@ -9,7 +9,7 @@ use mathlib.Core.Option.{Option, some}
 use mathlib.Core.Option.{none as nothing}
 use Prim.Native.Nat.{ℕ, suc}
 use Rattle.lexis.specs.Lexer.{Token}
-use Rattle.syntax.specs.Symbol.{symOf, isLiteral, leftRound, rightRound, leftSquare, rightSquare, leftCurly, rightCurly, colon, equal, comma, semicolon, arrow, aName, aNumber, version, graph, fragment, tensorWord, extentWord, scalarWord, logicalWord, stringWord}
+use Rattle.lexis.specs.Symbol.{symOf, isLiteral, leftRound, rightRound, leftSquare, rightSquare, leftCurly, rightCurly, colon, equal, comma, semicolon, arrow, aName, aNumber, version, graph, fragment, tensorWord, extentWord, scalarWord, logicalWord, stringWord}
 use Rattle.syntax.specs.Tree.{Value, Values, Ty, Tys, Param, Result, Header, Arg, Call, Document}
 use Rattle.syntax.specs.Tree.Value.{name, literal, array, tuple}
 use Rattle.syntax.specs.Tree.Values.{none, more}

@@ -7,7 +7,7 @@ use Rattle.lexis.specs.Sizes.{maxBrackets}
 use Rattle.lexis.specs.Ascii.{ascii}
 use Rattle.lexis.specs.Words.{sameBytes}
 use Rattle.lexis.specs.Lexer.{Token}
-use Rattle.syntax.specs.Symbol.{symOf, isLiteral, other, leftRound, rightRound, leftSquare, leftCurly, rightCurly, equal, semicolon, arrow, aName, aNumber, version, graph, tensorWord, extentWord, scalarWord, logicalWord, stringWord}
+use Rattle.lexis.specs.Symbol.{symOf, isLiteral, leftRound, rightRound, leftSquare, leftCurly, rightCurly, equal, semicolon, arrow, aName, aNumber, version, graph, tensorWord, extentWord, scalarWord, logicalWord, stringWord}
 use Rattle.syntax.specs.Tree.{Ty, Param, Result, Arg, Call}
 use Rattle.syntax.specs.Grammar.{Leaves, names, literals, both, takesNames, takesLiterals}
 use Rattle.syntax.specs.Parser.{Reader, then, expect, begins, rest, plain, commas, closed, row, tupleTypes, baseStep, type, param, result, argument, call}
@@ -24,15 +24,6 @@ use Rattle.syntax.specs.declared.list.Item.the-variants as W
 -- the number that stands for no token
 abbrev pub theEnd : ℕ
 theEnd = 267
-
--- the terminal of a type's name, by its spelling
-unfoldable pub typeSymbol : List ℕ → ℕ
-typeSymbol w =
-    cond (sameBytes w (ascii "tensor")) tensorWord
-    (cond (sameBytes w (ascii "extent")) extentWord
-    (cond (sameBytes w (ascii "scalar")) scalarWord
-    (cond (sameBytes w (ascii "logical")) logicalWord
-    (cond (sameBytes w (ascii "string")) stringWord other))))
 
 -- the terminal of the first token, or that of no token
 abbrev pub lookahead : List Token → ℕ

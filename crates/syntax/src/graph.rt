@@ -1,18 +1,18 @@
 // Documents: a version, a graph and its calls.
 use crate::Parsed;
 use crate::list::Item;
-use crate::symbol::Symbol;
 use crate::symbol::expect;
 use crate::symbol::fault_at;
 use crate::symbol::symbol_at;
 use crate::value::Leaves;
 use crate::value::items;
 use lexis::limits::Limits;
+use lexis::symbol::Symbol;
 ghost use mathlib.Core.Path.{_≡_};
 ghost use Prim.Native.Nat.{_≤_};
 ghost use lib.ListN.{length};
 ghost use Rattle.lexis.specs.Sizes.{maxBrackets};
-ghost use Rattle.syntax.specs.Symbol.{rightCurly};
+ghost use Rattle.lexis.specs.Symbol.{rightCurly};
 ghost use Rattle.syntax.specs.Parser.{call, plain, closed, row, parseDocument};
 ghost use Rattle.syntax.specs.Table.{toks, Holds, parsed};
 ghost use Rattle.syntax.specs.Inner.{semicolonOf, inputsOf, graphOf};

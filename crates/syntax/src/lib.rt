@@ -11,11 +11,12 @@ use lexis::Counted;
 use lexis::lex_into;
 use operations::list_syntax;
 ghost use mathlib.Core.Path.{_≡_};
-ghost use Prim.Native.Nat.{_*_, _≤_, min};
+ghost use mathlib.Core.Bool.{true};
+ghost use Prim.Native.Nat.{_≤_};
 ghost use lib.ListN.{length};
 ghost use Rattle.lexis.specs.Bytes.{classTable};
 ghost use Rattle.lexis.specs.Lexer.{lex};
-ghost use Rattle.lexis.specs.Sizes.{maxText, maxTokens, recordWords};
+ghost use Rattle.lexis.specs.Sizes.{maxText, workWords};
 ghost use Rattle.lexis.specs.Work.{Recorded, Room};
 ghost use Rattle.syntax.specs.Table.{toks, Holds};
 ghost use Rattle.syntax.specs.Read.{syntaxOf, readOf};
@@ -50,17 +51,18 @@ fn syntax_of(text: &[u8], table: &[u32], n: usize, which: Syntax) -> Parsed
     }
 }
 
-// Reads a text of at most 16384 bytes: its tokens, written in front of a work area, and their syntax. Answers how many tokens there are, or
+// Reads a text of at most 16384 bytes: its tokens, written in front of a work area, their terminals behind,
+// and their syntax. Answers how many tokens there are, or
 // the first fault; on a fault of the bytes the work area holds anything.
 pub fn read(classes: &[u8; 256], text: &[u8], work: &mut [u32], which: Syntax) -> Counted
     requires { ⌜ now classes ≡ classTable ⌝ }
     requires { ⌜ length (now text) ≤ maxText ⌝ }
-    requires { ⌜ recordWords * min (length (now text)) maxTokens ≤ length (now work) ⌝ }
+    requires { ⌜ workWords ≤ length (now work) ⌝ }
     ensures { λ r. ⌜ r ≡ readOf which (now (text .entry)) ⌝ }
-    ensures { λ _. ⌜ Recorded (lex (now (text .entry))) (now (work .entry)) (now (work .exit)) ⌝ }
+    ensures { λ _. ⌜ Recorded true (lex (now (text .entry))) (now (work .entry)) (now (work .exit)) ⌝ }
     ensures { λ r. ⌜ Room r (length (now (work .entry))) ⌝ }
 {
-    let found = lex_into(classes, text, &mut *work);
+    let found = lex_into(classes, text, &mut *work, true);
     let Counted::Tokens(n) = found else {
         return found;
     };

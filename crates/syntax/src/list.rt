@@ -1,17 +1,17 @@
 // Lists in round brackets: names, parameters, results and arguments.
 use crate::Parsed;
-use crate::symbol::Symbol;
 use crate::symbol::expect;
 use crate::symbol::symbol_at;
 use crate::types::type_at;
 use crate::value::Leaves;
 use crate::value::value;
 use lexis::limits::Limits;
+use lexis::symbol::Symbol;
 ghost use mathlib.Core.Path.{_≡_};
 ghost use Prim.Native.Nat.{_≤_};
 ghost use lib.ListN.{length};
 ghost use Rattle.lexis.specs.Sizes.{maxBrackets};
-ghost use Rattle.syntax.specs.Symbol.{rightRound};
+ghost use Rattle.lexis.specs.Symbol.{rightRound};
 ghost use Rattle.syntax.specs.Parser.{default, result, param, argument, plain, commas, row};
 ghost use Rattle.syntax.specs.Table.{toks, Holds, parsed};
 ghost use Rattle.syntax.specs.Inner.{isLabel, reader, onwards};

@@ -1,8 +1,8 @@
 // Operation lists: headers up to the end.
 use crate::Parsed;
 use crate::list::Item;
-use crate::symbol::Symbol;
 use crate::symbol::expect;
+use lexis::symbol::Symbol;
 ghost use mathlib.Core.Path.{_≡_};
 ghost use lib.ListN.{length};
 ghost use Rattle.lexis.specs.Sizes.{maxBrackets};

@@ -1,14 +1,14 @@
 // Types: a name or a tuple of types, and pairs of square brackets.
 use crate::Parsed;
-use crate::symbol::Symbol;
 use crate::symbol::expect;
 use crate::symbol::fault_at;
 use crate::symbol::symbol_at;
+use lexis::symbol::Symbol;
 ghost use mathlib.Core.Path.{_≡_};
 ghost use Prim.Native.Nat.{_<_, _≤_};
 ghost use lib.Dec.{ltb};
 ghost use lib.ListN.{length};
-ghost use Rattle.syntax.specs.Symbol.{rightRound};
+ghost use Rattle.lexis.specs.Symbol.{rightRound};
 ghost use Rattle.syntax.specs.Tree.Ty.{tensor};
 ghost use Rattle.syntax.specs.Parser.{type, types, commas, tupleTypes, dims, row};
 ghost use Rattle.syntax.specs.Table.{toks, Holds, parsed};

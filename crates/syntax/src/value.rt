@@ -1,9 +1,9 @@
 // Values: names, literals, arrays and tuples.
 use crate::Parsed;
-use crate::symbol::Symbol;
 use crate::symbol::expect;
 use crate::symbol::fault_at;
 use crate::symbol::symbol_at;
+use lexis::symbol::Symbol;
 ghost use mathlib.Core.Path.{_≡_};
 ghost use Prim.Native.Nat.{_<_};
 ghost use lib.ListN.{length};

@@ -6,7 +6,7 @@ use Prim.Native.Nat.{ℕ, _+_, _-_, _*_, _≤_, _<_}
 use native.Mathlib.Omega.{arith}
 use lib.ListN.{length}
 use Rattle.lexis.specs.Ascii.{ascii}
-use Rattle.syntax.specs.Symbol.{rightRound, rightSquare}
+use Rattle.lexis.specs.Symbol.{rightRound, rightSquare}
 use Rattle.syntax.specs.Table.{toks}
 use Rattle.syntax.proofs.Symbols.{stands}
 use Rattle.canonical.specs.declared.value.Put.{Put}

@@ -8,50 +8,45 @@ use borrow.Author.Needs.{needs}
 use Rattle.documents.proofs.stages.document_stages.Statement.{statement}
 use Rattle.documents.proofs.stages.document_stages.Tie as tie
 
--- src/stages.rt:70:11
 read-requires : tie.Need-read-requires
-read-requires c κs = search needs
+read-requires c κs = let p = c .before .before .before .before .before .before .pre in (p .0, (p .1 .1 .0, p .1 .1 .1 .1))
 
--- src/stages.rt:71:25
 enum-known-m : tie.Need-enum-known-m
 enum-known-m c = search needs
 
--- src/stages.rt:71:74
 cast-rules-stage : tie.Need-cast-rules-stage
 cast-rules-stage c = search needs
 
--- src/stages.rt:71:31
 rules-stage-requires : tie.Need-rules-stage-requires
 rules-stage-requires c κs =
-    let s = c .before .before .before .before .before .before .before .before .before .before .before .before in
+    let s = c .before .before .before .before .before .before .before .before .before .before .before .before .before in
     let e = c .before .before .before .before .before .before .read .ensures in
     let g = c .before .before .m .given .1 in
     let r = room-of (length (s .args .work2 .now)) (e .1 .1) g in
-    (s .pre .1 .0, (read-document (s .args .doc .now) (s .args .work2 .now) _ _ (r .0) (e .0) g (e .1 .0) (e .1 .1), s .pre .1 .1 .1 .0))
+    let l = s .pre .1 .1 .1 in
+    (s .pre .1 .0, (read-document (s .args .doc .now) (s .args .work2 .now) _ _ (r .0) (l .1) (e .0) g (e .1 .0) (e .1 .1), l .0))
 
--- src/stages.rt:72:26
 enum-known-code : tie.Need-enum-known-code
 enum-known-code c = search needs
 
--- src/stages.rt:54:1
 same-length : tie.Need-same-length
 same-length c = search needs
 
--- src/stages.rt:54:1
 returns : tie.Need-returns
-returns c = let s = c .before .before .before .before .before .before .before .before .before .before .before .before .before in (c .rules-stage .ensures, written-length (lex (s .args .doc .now)) (s .args .work2 .now) _ (c .before .before .before .before .before .before .before .read .ensures .1 .0))
+returns c =
+    let s = c .before .before .before .before .before .before .before .before .before .before .before .before .before .before in
+    (c .rules-stage .ensures, written-length (lex (s .args .doc .now)) (s .args .work2 .now) _ (c .before .before .before .before .before .before .before .read .ensures .1 .0))
 
--- src/stages.rt:54:1
 same-length-2 : tie.Need-same-length-2
 same-length-2 c = search needs
 
--- src/stages.rt:54:1
 returns-2 : tie.Need-returns-2
 returns-2 c =
-    let s = c .before .before .before .before .before .before .before .before .before .before .before in
+    let s = c .before .before .before .before .before .before .before .before .before .before .before .before in
     let e = c .before .before .before .before .before .read .ensures in
     let p = s .pre .1 .0 in
-    (both-under (s .args .list .now) (s .args .doc .now) (p .stages) (document-stops (p .headers) (s .args .doc .now) (e .0) (c .before .code .given .1)), written-length (lex (s .args .doc .now)) (s .args .work2 .now) _ (e .1 .0))
+    let stops = document-stops (p .headers) (s .args .doc .now) (e .0) (c .before .code .given .1) in
+    (both-under (s .args .list .now) (s .args .doc .now) (p .stages) stops, written-length (lex (s .args .doc .now)) (s .args .work2 .now) _ (e .1 .0))
 
 pub document-stages-spec : {M : Type 1} → statement M
 document-stages-spec =

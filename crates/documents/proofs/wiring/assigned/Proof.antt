@@ -1,7 +1,7 @@
 use lib.ListN.{length}
 use Rattle.lists.proofs.Bests.{clean-none}
 use Rattle.documents.proofs.Walking.{Walking, walking-start, walking-next, walking-end, names-step, names-end, named-step}
-use Rattle.syntax.specs.Symbol.{equal}
+use Rattle.lexis.specs.Symbol.{equal}
 use Rattle.lists.specs.Scans.{namesAmong}
 use Rattle.lists.specs.Names.{allAssigned}
 use Rattle.lists.specs.Best.{meant}

@@ -1,7 +1,7 @@
 use mathlib.Core.Path.{ap}
 use Prim.Native.Nat.{ℕ}
 use lib.Dec.{eqb}
-use Rattle.syntax.specs.Symbol.{equal}
+use Rattle.lexis.specs.Symbol.{equal}
 use borrow.Author.Needs.{needs}
 use Rattle.lists.proofs.fitting.is_whole.Statement.{statement}
 use Rattle.lists.proofs.fitting.is_whole.Tie as tie

@@ -7,7 +7,7 @@ use borrow.Author.Needs.{needs}
 use Rattle.lexis.specs.Sizes.{maxBrackets}
 use Rattle.syntax.specs.Table.{toks, parsed}
 use Rattle.syntax.specs.Parser.{row, plain, closed, call}
-use Rattle.syntax.specs.Symbol.{rightCurly}
+use Rattle.lexis.specs.Symbol.{rightCurly}
 use Rattle.syntax.proofs.Graphs.{body-fell, body-last, body-next}
 use Rattle.syntax.proofs.Chain.{passes, reaches}
 use Rattle.syntax.proofs.Symbols.{stands}

@@ -4,7 +4,7 @@ use borrow.Author.Needs.{needs}
 use Rattle.syntax.specs.Inner.{reader}
 use Rattle.syntax.specs.Table.{toks}
 use Rattle.syntax.specs.Parser.{row, plain, commas}
-use Rattle.syntax.specs.Symbol.{rightRound}
+use Rattle.lexis.specs.Symbol.{rightRound}
 use Rattle.syntax.specs.declared.list.Item.the-variants.{Argument}
 use Rattle.syntax.proofs.Graphs.{call-is}
 use Rattle.syntax.proofs.Chain.{fell, went, onto, step-reaches}

@@ -7,7 +7,7 @@ use borrow.Author.Needs.{needs}
 use Rattle.syntax.specs.Inner.{reader}
 use Rattle.syntax.specs.Table.{toks, parsed}
 use Rattle.syntax.specs.Parser.{plain, commas, row}
-use Rattle.syntax.specs.Symbol.{rightRound}
+use Rattle.lexis.specs.Symbol.{rightRound}
 use Rattle.syntax.proofs.Lists.{item-sound}
 use Rattle.syntax.proofs.Rows.{row-fell, row-last, row-next}
 use Rattle.syntax.proofs.Symbols.{stands}

@@ -10,7 +10,7 @@ use borrow.Fn.PlainCycle.{Measures, is, falls, and}
 use Rattle.syntax.specs.Inner.{baseOf}
 use Rattle.syntax.specs.Table.{toks, parsed}
 use Rattle.syntax.specs.Parser.{type, types, commas, row}
-use Rattle.syntax.specs.Symbol.{rightRound}
+use Rattle.lexis.specs.Symbol.{rightRound}
 use Rattle.syntax.proofs.TypeSpecs.{type-sound, type-is, tuple-types-is, word-stands, at-word, at-not, at-full, at-tuple}
 use Rattle.syntax.proofs.Rows.{row-fell, row-last, row-next, comma-past}
 use Rattle.syntax.proofs.Symbols.{stands}

@@ -1,14 +1,14 @@
 -- The terminals of the grammar: all that it sees of a token. A syntactic character is numbered by its first byte, every other
--- terminal by a number that is no byte.
+-- terminal by a number that is no byte. Relies on `Kind`, `Words` and `Lexer`.
 use Prim.Native.Nat.{ℕ}
 use mathlib.Core.Bool.{Bool, cond, _||_}
 use mathlib.Core.List.{List, [], _∷_}
 use lib.Dec.{eqb}
 use lib.ListN.{getD}
 use Rattle.lexis.specs.Ascii.{ascii}
 use Rattle.lexis.specs.Kind as Kind
 use Rattle.lexis.specs.Words.{sameBytes}
 use Rattle.lexis.specs.Lexer.{Token}
 
 -- ---- none
 
@@ -112,17 +112,36 @@ stringWord = 266
 
 -- ---- the terminal of a token
 
+-- a keyword of the flat syntax and its terminal
+pub record Terminal : Type 0 where
+  pub symbol : ℕ
+  pub spelling : List ℕ
+
+-- the keyword of terminal s, spelt w
+abbrev pub terminal : ℕ → List ℕ → Terminal
+terminal s w = record { symbol = s; spelling = w }
+
+-- every keyword that has a terminal of its own
+unfoldable pub terminals : List Terminal
+terminals =
+    terminal version (ascii "version")
+    ∷ terminal graph (ascii "graph")
+    ∷ terminal fragment (ascii "fragment")
+    ∷ terminal tensorWord (ascii "tensor")
+    ∷ terminal extentWord (ascii "extent")
+    ∷ terminal scalarWord (ascii "scalar")
+    ∷ terminal logicalWord (ascii "logical")
+    ∷ terminal stringWord (ascii "string")
+    ∷ []
+
+-- the terminal of the first keyword of the list that is spelt w; where none is, w has no place in the flat syntax
+unfoldable pub symbolIn : List Terminal → List ℕ → ℕ
+symbolIn [] w = other
+symbolIn (x ∷ xs) w = let r = symbolIn xs w in cond (sameBytes w (x .spelling)) (x .symbol) r
+
 -- the terminal of a keyword, by its spelling
-unfoldable pub keywordSymbol : List ℕ → ℕ
-keywordSymbol w =
-    cond (sameBytes w (ascii "version")) version
-    (cond (sameBytes w (ascii "graph")) graph
-    (cond (sameBytes w (ascii "fragment")) fragment
-    (cond (sameBytes w (ascii "tensor")) tensorWord
-    (cond (sameBytes w (ascii "extent")) extentWord
-    (cond (sameBytes w (ascii "scalar")) scalarWord
-    (cond (sameBytes w (ascii "logical")) logicalWord
-    (cond (sameBytes w (ascii "string")) stringWord other)))))))
+abbrev pub keywordSymbol : List ℕ → ℕ
+keywordSymbol w = symbolIn terminals w
 
 -- the terminal of a token of kind k and bytes w
 unfoldable pub symbolOf : ℕ → List ℕ → ℕ
@@ -138,6 +157,11 @@ symbolOf k w =
 -- the terminal of a token
 unfoldable pub symOf : Token → ℕ
 symOf t = symbolOf (t .kind) (t .bytes)
+
+-- the terminals of tokens, in order
+unfoldable pub symbols : List Token → List ℕ
+symbols [] = []
+symbols (t ∷ ts) = symOf t ∷ symbols ts
 
 -- a literal: a number, a string, true or false
 abbrev pub isLiteral : ℕ → Bool

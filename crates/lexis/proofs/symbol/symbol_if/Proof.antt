@@ -1,8 +1,8 @@
 -- The two cases of the comparison.
 use mathlib.Core.Path.{sym, _∙_}
 use borrow.Author.Needs.{needs}
-use Rattle.syntax.proofs.symbol.symbol_if.Statement.{statement}
-use Rattle.syntax.proofs.symbol.symbol_if.Tie as tie
+use Rattle.lexis.proofs.symbol.symbol_if.Statement.{statement}
+use Rattle.lexis.proofs.symbol.symbol_if.Tie as tie
 
 same-requires : tie.Need-same-requires
 same-requires c κs = search needs
