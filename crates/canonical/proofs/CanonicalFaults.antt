@@ -21,7 +21,7 @@ use Rattle.documents.specs.Wiring.{strangers, again, unwiredAfter, isExternal, 
 use Rattle.documents.specs.DocumentRules.{badVersion, documentCounts, graphRepeats, undeclared, argumentFaults, unmatched, documentFaults}
 use Rattle.canonical.specs.Plan.{PlanCall, Plan, spellings, planOf}
 use Rattle.canonical.proofs.Shape.{CanonCall, CanonCalls, no-calls, a-call, CanonDocument}
-use Rattle.canonical.proofs.Clean.{Keeps, both-keep, no-part, a-part, row-keeps}
+use Rattle.canonical.proofs.Clean.{EmptyToo, both-keep, no-part, a-part, row-keeps}
 use Rattle.canonical.proofs.Spelt.{append-same, equal-within, among-keep, repeats-keep, faults-keep, over-keep, counts-keep}
 use Rattle.canonical.proofs.NamedArguments.{values-bound, named-values, no-misplaced, no-misnamed}
 use Rattle.canonical.proofs.Alike.{CallAlike, Alike, none-alike, more-alike, DocumentAlike, document-alike, calls-length, calls-assign, calls-use}
@@ -55,12 +55,12 @@ calls-clean f h (a-call {c} {t} k ks) = simp (h c t k, calls-clean f h ks)
 
 -- ---- 13, 21
 
-repeats-kept : (c : ℕ) (ts us : List Token) → spellings ts ≡ spellings us → Keeps (faults c (starts (repeats ts))) (faults c (starts (repeats us)))
+repeats-kept : (c : ℕ) (ts us : List Token) → spellings ts ≡ spellings us → EmptyToo (faults c (starts (repeats ts))) (faults c (starts (repeats us)))
 repeats-kept c ts us e = faults-keep c (repeats ts) (repeats us) (repeats-keep [] [] ts us refl e)
 
 -- ---- 22
 
-wired-kept : (ks ls : List Token) {cs ts : List Call} → spellings ks ≡ spellings ls → Alike cs ts → Keeps (unwiredAfter ks cs) (unwiredAfter ls ts)
+wired-kept : (ks ls : List Token) {cs ts : List Call} → spellings ks ≡ spellings ls → Alike cs ts → EmptyToo (unwiredAfter ks cs) (unwiredAfter ls ts)
 unfolding unwiredAfter
 wired-kept ks ls e none-alike h = h
 wired-kept ks ls e (more-alike {c} {t} {cs} {ts} a l) h =
@@ -70,21 +70,21 @@ wired-kept ks ls e (more-alike {c} {t} {cs} {ts} a l) h =
 
 -- ---- 23, by the calls
 
-call-fed : (ks ls : List Token) (c t : Call) → spellings ks ≡ spellings ls → CallAlike c t → Keeps (misfedBy ks c) (misfedBy ls t)
+call-fed : (ks ls : List Token) (c t : Call) → spellings ks ≡ spellings ls → CallAlike c t → EmptyToo (misfedBy ks c) (misfedBy ls t)
 unfolding misfedBy
 call-fed ks ls c t e a =
     let x : isExternal c ≡ isExternal t = ap (λ (w : List ℕ). sameBytes w (ascii "external")) (a .op) in
     rw (← x) (go (isExternal c))
   where
-    keeps : (f : Bool → Bool) → Keeps (those (λ u. f (isAmong ks u)) (assigned c)) (those (λ u. f (isAmong ls u)) (assigned t))
+    keeps : (f : Bool → Bool) → EmptyToo (those (λ u. f (isAmong ks u)) (assigned c)) (those (λ u. f (isAmong ls u)) (assigned t))
     keeps f = among-keep f ks ls (assigned c) (assigned t) e (equal-within (sym (a .left)))
 
-    go : (b : Bool) → Keeps (faults 23 (starts (cond b (strangers ks (assigned c)) (those (isAmong ks) (assigned c)))))
+    go : (b : Bool) → EmptyToo (faults 23 (starts (cond b (strangers ks (assigned c)) (those (isAmong ks) (assigned c)))))
         (faults 23 (starts (cond b (strangers ls (assigned t)) (those (isAmong ls) (assigned t)))))
     go true = faults-keep 23 (strangers ks (assigned c)) (strangers ls (assigned t)) (keeps not)
     go false = faults-keep 23 (those (isAmong ks) (assigned c)) (those (isAmong ls) (assigned t)) (keeps (λ b. b))
 
-calls-fed : (ks ls : List Token) {cs ts : List Call} → spellings ks ≡ spellings ls → Alike cs ts → Keeps (flatMap (misfedBy ks) cs) (flatMap (misfedBy ls) ts)
+calls-fed : (ks ls : List Token) {cs ts : List Call} → spellings ks ≡ spellings ls → Alike cs ts → EmptyToo (flatMap (misfedBy ks) cs) (flatMap (misfedBy ls) ts)
 unfolding flatMap
 calls-fed ks ls e none-alike h = h
 calls-fed ks ls e (more-alike {c} {t} {cs} a l) h = both-keep (misfedBy ks c) (flatMap (misfedBy ks) cs) (call-fed ks ls c t e a) (calls-fed ks ls e l) h
@@ -93,7 +93,7 @@ calls-fed ks ls e (more-alike {c} {t} {cs} a l) h = both-keep (misfedBy ks c) (f
 
 module _ (d t : Document) (a : DocumentAlike d t) where
   -- 12
-  counts-kept : Keeps (documentCounts d) (documentCounts t)
+  counts-kept : EmptyToo (documentCounts d) (documentCounts t)
   unfolding documentCounts
   counts-kept =
       let place : Call → ℕ = λ c. startOf (c .left) in
@@ -110,13 +110,13 @@ module _ (d t : Document) (a : DocumentAlike d t) where
 
   -- 23, 24: inputs and outputs that are never assigned
   made-kept : (c : ℕ) (ts us : List Token) → spellings ts ≡ spellings us
-      → Keeps (faults c (starts (strangers (allAssigned (d .calls)) ts))) (faults c (starts (strangers (allAssigned (t .calls)) us)))
+      → EmptyToo (faults c (starts (strangers (allAssigned (d .calls)) ts))) (faults c (starts (strangers (allAssigned (t .calls)) us)))
   made-kept c ts us e =
       let ks = allAssigned (d .calls) in
       let ls = allAssigned (t .calls) in
       faults-keep c (strangers ks ts) (strangers ls us) (among-keep not ks ls ts us (calls-assign (a .calls)) (equal-within (sym e)))
 
-  fed-kept : Keeps (misfed d) (misfed t)
+  fed-kept : EmptyToo (misfed d) (misfed t)
   unfolding misfed
   fed-kept =
       both-keep (faults 23 (starts (strangers (allAssigned (d .calls)) (d .inputs)))) (flatMap (misfedBy (d .inputs)) (d .calls))

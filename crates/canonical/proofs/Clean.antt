@@ -3,19 +3,19 @@ use mathlib.Core.Path.{_≡_, refl}
 use mathlib.Core.List.{List, [], _∷_, _++_, flatten, cons≢nil}
 
 -- the second is empty where the first is
-abbrev pub Keeps : {A : Type 0} → List A → List A → Type 0
-Keeps xs ys = xs ≡ [] → ys ≡ []
+abbrev pub EmptyToo : {A : Type 0} → List A → List A → Type 0
+EmptyToo xs ys = xs ≡ [] → ys ≡ []
 
-pub both-keep : {A : Type 0} (xs ys : List A) {us ws : List A} → Keeps xs us → Keeps ys ws → Keeps (xs ++ ys) (us ++ ws)
+pub both-keep : {A : Type 0} (xs ys : List A) {us ws : List A} → EmptyToo xs us → EmptyToo ys ws → EmptyToo (xs ++ ys) (us ++ ws)
 both-keep [] ys f g h = rw (f refl, g h)
 both-keep (x ∷ xs) ys f g h = absurd (cons≢nil h)
 
 -- part by part
 pub data Row {A : Type 0} : List (List A) → List (List A) → Type 0 where
   no-part : Row [] []
-  a-part : {xs ys : List A} {xss yss : List (List A)} → Keeps xs ys → Row xss yss → Row (xs ∷ xss) (ys ∷ yss)
+  a-part : {xs ys : List A} {xss yss : List (List A)} → EmptyToo xs ys → Row xss yss → Row (xs ∷ xss) (ys ∷ yss)
 
-pub row-keeps : {A : Type 0} {xss yss : List (List A)} → Row xss yss → Keeps (flatten xss) (flatten yss)
+pub row-keeps : {A : Type 0} {xss yss : List (List A)} → Row xss yss → EmptyToo (flatten xss) (flatten yss)
 unfolding flatten
 row-keeps no-part h = h
 row-keeps (a-part {xs} {xss = xss} f r) h = both-keep xs (flatten xss) f (row-keeps r) h

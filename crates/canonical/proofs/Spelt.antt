@@ -14,7 +14,7 @@ use Rattle.lists.specs.ListRules.{over}
 use Rattle.lists.proofs.Faultless.{no-faults, no-starts}
 use Rattle.lists.proofs.Faultless.{none-beyond}
 use Rattle.canonical.specs.Plan.{spellings}
-use Rattle.canonical.proofs.Clean.{Keeps}
+use Rattle.canonical.proofs.Clean.{EmptyToo}
 
 pub spellings-append : (ts us : List Token) → spellings (ts ++ us) ≡ spellings ts ++ spellings us
 spellings-append ts us = map-append (λ (t : Token). t .bytes) ts us
@@ -86,7 +86,7 @@ length-zero (x ∷ xs) h = absurd (omega arith)
 
 -- those that are, or that are not, among others
 pub among-keep : (f : Bool → Bool) (ks ls ts us : List Token) → spellings ks ≡ spellings ls → Within (spellings us) (spellings ts)
-    → Keeps (those (λ t. f (isAmong ks t)) ts) (those (λ t. f (isAmong ls t)) us)
+    → EmptyToo (those (λ t. f (isAmong ks t)) ts) (those (λ t. f (isAmong ls t)) us)
 among-keep f ks ls ts us e w h =
     let g : List ℕ → Bool = λ b. f (isIn (spellings ks) b) in
     let m = those-tally (λ t. f (isAmong ks t)) g (λ t. ap f (among-in ks t)) ts in
@@ -105,7 +105,7 @@ fresh seen t ts h = go (isAmong seen t) h
     go true e = absurd (cons≢nil e)
     go false e = (refl, e)
 
-pub repeats-keep : (rs ss ts us : List Token) → spellings rs ≡ spellings ss → spellings ts ≡ spellings us → Keeps (repeatsAfter rs ts) (repeatsAfter ss us)
+pub repeats-keep : (rs ss ts us : List Token) → spellings rs ≡ spellings ss → spellings ts ≡ spellings us → EmptyToo (repeatsAfter rs ts) (repeatsAfter ss us)
 unfolding repeatsAfter
 repeats-keep rs ss [] [] e q h = refl
 repeats-keep rs ss [] (u ∷ us) e q h = absurd (cons≢nil (sym q))
@@ -119,16 +119,16 @@ repeats-keep rs ss (t ∷ ts) (u ∷ us) e q h =
 
 -- ---- faults
 
-pub faults-keep : (c : ℕ) (ts us : List Token) → Keeps ts us → Keeps (faults c (starts ts)) (faults c (starts us))
+pub faults-keep : (c : ℕ) (ts us : List Token) → EmptyToo ts us → EmptyToo (faults c (starts ts)) (faults c (starts us))
 faults-keep c ts us f h = rw (f (no-starts ts (no-faults c (starts ts) h)))
 
-pub over-keep : (n : ℕ) (ps qs : List ℕ) → length qs ≤ length ps → Keeps (over n ps) (over n qs)
+pub over-keep : (n : ℕ) (ps qs : List ℕ) → length qs ≤ length ps → EmptyToo (over n ps) (over n qs)
 over-keep n ps qs l h =
     let m = none-beyond n ps (no-faults 12 (take 1 (drop n ps)) h) in
     let k : length qs ≤ n = omega arith in
     rw (drop-of-length-le qs k)
 
-pub counts-keep : (n : ℕ) (ts us : List Token) → Within (spellings us) (spellings ts) → Keeps (over n (starts ts)) (over n (starts us))
+pub counts-keep : (n : ℕ) (ts us : List Token) → Within (spellings us) (spellings ts) → EmptyToo (over n (starts ts)) (over n (starts us))
 counts-keep n ts us w = over-keep n (starts ts) (starts us) (omega (arith, w (λ v. true), all ts, all us))
   where
     all : (rs : List Token) → tally (λ w. true) (spellings rs) ≡ length (starts rs)

@@ -74,21 +74,21 @@ module _ (text table : List ℕ) (to : ℕ) (t : Token) where
 
 module _ (f : Rule) (ks : List Token) (text table : List ℕ) (from to : ℕ) where
   -- the names before place i
-  abbrev pub passed : ℕ → List Token
-  passed i = ks ++ namesAmong (toks text table i from)
+  abbrev pub namesPassed : ℕ → List Token
+  namesPassed i = ks ++ namesAmong (toks text table i from)
 
   -- what is left of the scan at place i, and what place i gives
   abbrev pub left : ℕ → Option Fault
-  left i = first (scan f (passed i) (namesAmong (toks text table to i)))
+  left i = first (scan f (namesPassed i) (namesAmong (toks text table to i)))
 
   abbrev pub here : ℕ → Option Fault
-  here i = first (scan f (passed i) (namesAmong (tokenAt text table i ∷ [])))
+  here i = first (scan f (namesPassed i) (namesAmong (tokenAt text table i ∷ [])))
 
-  pub passed-none : (i : ℕ) → i ≤ from → passed i ≡ ks
+  pub passed-none : (i : ℕ) → i ≤ from → namesPassed i ≡ ks
   unfolding those
   passed-none i h = ap (λ (x : List Token). ks ++ namesAmong x) (toks-none text table i from h) ∙ append-nil ks
 
-  pub passed-next : (i : ℕ) → from ≤ i → passed (i + 1) ≡ passed i ++ namesAmong (tokenAt text table i ∷ [])
+  pub passed-next : (i : ℕ) → from ≤ i → namesPassed (i + 1) ≡ namesPassed i ++ namesAmong (tokenAt text table i ∷ [])
   passed-next i h =
       ap (λ (x : List Token). ks ++ namesAmong x) (toks-last text table from i h)
       ∙ ap (λ (x : List Token). ks ++ x) (those-append isName (toks text table i from) (tokenAt text table i ∷ []))
@@ -99,13 +99,13 @@ module _ (f : Rule) (ks : List Token) (text table : List ℕ) (from to : ℕ) wh
 
   pub scan-next : (i : ℕ) → from ≤ i → i < to → left i ≡ earlier (here i) (left (i + 1))
   scan-next i h k =
-      ap (λ (x : List Token). first (scan f (passed i) x)) (ap namesAmong (toks-more text table to i k) ∙ those-append isName (tokenAt text table i ∷ []) (toks text table to (i + 1)))
-      ∙ first-scan f (passed i) (namesAmong (tokenAt text table i ∷ [])) (namesAmong (toks text table to (i + 1)))
+      ap (λ (x : List Token). first (scan f (namesPassed i) x)) (ap namesAmong (toks-more text table to i k) ∙ those-append isName (tokenAt text table i ∷ []) (toks text table to (i + 1)))
+      ∙ first-scan f (namesPassed i) (namesAmong (tokenAt text table i ∷ [])) (namesAmong (toks text table to (i + 1)))
       ∙ ap (λ (x : List Token). earlier (here i) (first (scan f x (namesAmong (toks text table to (i + 1)))))) (sym (passed-next i h))
 
   pub scan-end : (i : ℕ) → to ≤ i → left i ≡ nothing
   unfolding those scan first
-  scan-end i h = ap (λ (x : List Token). first (scan f (passed i) (namesAmong x))) (toks-none text table to i h)
+  scan-end i h = ap (λ (x : List Token). first (scan f (namesPassed i) (namesAmong x))) (toks-none text table to i h)
 
 -- ---- one name
 

@@ -21,8 +21,8 @@ use Rattle.syntax.proofs.Row.{cond-has, Left, Shrinks, then-left, mappe
 use Rattle.syntax.proofs.Row.Left.{fewer, fault}
 
 -- no more tokens are left than were given
-abbrev pub Keeps : {A : Type 0} → Reader A → Type 0
-Keeps item = (ts : List Token) → Left (suc (length ts)) (item ts)
+abbrev pub NoLonger : {A : Type 0} → Reader A → Type 0
+NoLonger item = (ts : List Token) → Left (suc (length ts)) (item ts)
 
 -- a choice between two readers
 cond-left : {A : Type 0} {n : ℕ} {x y : Parse A} (c : Bool) → Left n x → Left n y → Left n (cond c x y)
@@ -49,7 +49,7 @@ expect-shrinks s (t ∷ ts) = cond-left (eqb (symOf t) s) (fewer (omega arith)) 
 
 -- ---- values
 
-value-step-shrinks : (m : Leaves) (opened : Token → Reader Value) → ((t : Token) → Keeps (opened t)) → Shrinks (valueStep m opened)
+value-step-shrinks : (m : Leaves) (opened : Token → Reader Value) → ((t : Token) → NoLonger (opened t)) → Shrinks (valueStep m opened)
 unfolding valueStep
 value-step-shrinks m opened h [] = fault
 value-step-shrinks m opened h (t ∷ ts) =
@@ -70,7 +70,7 @@ module _ (val : Reader Value) (h : Shrinks val) where
       then-left (still (expect-shrinks comma) p) (λ c us p.
       mapped-left _ (still (row-shrinks _ _ val h) p)))
 
-  bracketed-keeps : (t : Token) → Keeps (bracketed val t)
+  bracketed-keeps : (t : Token) → NoLonger (bracketed val t)
   unfolding bracketed
   bracketed-keeps t ts = keeps (cond-left (eqb (symOf t) leftSquare) (mapped-left _ (array-shrinks ts)) (mapped-left _ (tuple-shrinks ts)))
 
@@ -81,7 +81,7 @@ value-shrinks m (suc b) ts = value-step-shrinks m _ (bracketed-keeps (value m b)
 
 -- ---- types
 
-pub dims-keeps : (may : Bool) (u : Ty) → Keeps (dims may u)
+pub dims-keeps : (may : Bool) (u : Ty) → NoLonger (dims may u)
 unfolding dims
 dims-keeps may u [] = nothing-taken []
 dims-keeps may u (o ∷ []) = cond-left (eqb (symOf o) leftSquare) (cond-left may fault fault) (fewer (omega arith))
@@ -97,11 +97,11 @@ tuple-types-shrinks ty h ts =
     then-left (still (expect-shrinks comma) p) (λ c us p.
     mapped-left _ (still (row-shrinks _ _ ty h) p)))
 
-named-type-left : (o : Option Ty) (t : Token) → Keeps (named-type o t)
+named-type-left : (o : Option Ty) (t : Token) → NoLonger (named-type o t)
 named-type-left (some u) t ts = nothing-taken ts
 named-type-left nothing t ts = fault
 
-base-step-shrinks : (opened : Token → Reader Ty) → ((t : Token) → Keeps (opened t)) → Shrinks (baseStep opened)
+base-step-shrinks : (opened : Token → Reader Ty) → ((t : Token) → NoLonger (opened t)) → Shrinks (baseStep opened)
 unfolding baseStep
 base-step-shrinks opened h [] = fault
 base-step-shrinks opened h (t ∷ ts) = cond-left (eqb (symOf t) leftRound) (h t ts) (named-type-left (typeName (symOf t)) t ts)
@@ -114,7 +114,7 @@ type-shrinks (suc b) ts =
 
 -- ---- operation lists
 
-pub default-keeps : (b : ℕ) → Keeps (default b)
+pub default-keeps : (b : ℕ) → NoLonger (default b)
 unfolding default
 default-keeps b ts = cond-left (begins equal ts) (mapped-left _ (still (value-shrinks literals b) (rest-lt ts))) (nothing-taken ts)
 
@@ -146,7 +146,7 @@ header-shrinks b ts =
 
 -- ---- documents
 
-labelled-keeps : (v : Value) (e : Bool) (b : ℕ) → Keeps (labelled v e b)
+labelled-keeps : (v : Value) (e : Bool) (b : ℕ) → NoLonger (labelled v e b)
 labelled-keeps (name t) true b us = mapped-left _ (still (value-shrinks both b) (rest-lt us))
 labelled-keeps (name t) false b us = nothing-taken us
 labelled-keeps (literal t) e b us = nothing-taken us

@@ -17,23 +17,18 @@ Inv-loop work₀ i₀ work i = (i ≤ length work₀) × (work ≡ zeroed work�
 abbrev μ-loop : tie.MeasureT-loop
 μ-loop work₀ i₀ work i = length work₀ - i
 
--- src/lib.rt:61:5
 loop-holds : tie.Need-loop-holds Inv-loop μ-loop
 loop-holds c = (omega arith, zeroed-none (c .args .work .now))
 
--- src/lib.rt:62:9
 mul-work : tie.Need-mul-work Inv-loop μ-loop
 mul-work c = search needs
 
--- src/lib.rt:62:9
 slice-write-work : tie.Need-slice-write-work Inv-loop μ-loop
 slice-write-work c = c .loop-test .taken
 
--- src/lib.rt:63:9
 add-i : tie.Need-add-i Inv-loop μ-loop
 add-i c = search needs
 
--- src/lib.rt:61:5
 loop-less : tie.Need-loop-less Inv-loop μ-loop
 loop-less c =
     let w = c .before .before .args .work .now in
@@ -41,7 +36,6 @@ loop-less c =
     let e : length (l .work) ≡ length w = ap length (l .inv .1) ∙ zeroed-length w (l .i) (l .inv .0) in
     omega (arith, e, c .loop-test .taken)
 
--- src/lib.rt:61:5
 loop-again : tie.Need-loop-again Inv-loop μ-loop
 loop-again c =
     let w = c .before .before .args .work .now in
@@ -50,7 +44,6 @@ loop-again c =
     let t : l .i < length w = omega (arith, e, c .loop-test .taken) in
     (omega arith, ap (λ (x : List ℕ). set x (l .i) 0) (l .inv .1) ∙ zeroed-next w (l .i) t)
 
--- src/lib.rt:57:1
 same-length : tie.Need-same-length Inv-loop μ-loop
 same-length c =
     let w = c .before .before .args .work .now in
@@ -58,7 +51,6 @@ same-length c =
     let e : length (l .work) ≡ length w = ap length (l .inv .1) ∙ zeroed-length w (l .i) (l .inv .0) in
     e
 
--- src/lib.rt:57:1
 returns : tie.Need-returns Inv-loop μ-loop
 returns c =
     let w = c .before .before .args .work .now in

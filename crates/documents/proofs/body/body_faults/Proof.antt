@@ -23,23 +23,18 @@ Inv-loop text table n graph walk₀ walk = (walk .calls ≤ walk .at) × (walk .
 abbrev μ-loop : tie.MeasureT-loop
 μ-loop text table n graph walk₀ walk = graph .end - walk .at
 
--- src/body.rt:78:15
 none-requires : tie.Need-none-requires Inv-loop μ-loop
 none-requires c κs = search needs
 
--- src/body.rt:84:5
 loop-holds : tie.Need-loop-holds Inv-loop μ-loop
 loop-holds c = (omega arith, omega arith, omega arith, λ b cs h. going-start (c .before .before .before .args .text .now) (c .before .before .before .args .table .now) (c .before .before .before .args .n) (namesAmong (toks (c .before .before .before .args .text .now) (c .before .before .before .args .table .now) (c .before .before .before .args .graph .inputs) 5)) (c .before .before .before .args .graph .body) (c .before .before .before .args .graph .end) b cs _ refl refl refl refl (ap meant (c .none .ensures) ∙ clean-none) h)
 
--- src/body.rt:85:9
 call-at-requires : tie.Need-call-at-requires Inv-loop μ-loop
 call-at-requires c κs = (c .before .before .before .before .before .before .before .pre .0, ((omega (arith, c .if1 .taken, c .before .before .before .before .before .before .before .pre .1 .1), c .before .before .before .before .before .before .before .pre .1 .0), (c .before .before .before .loop .inv .0, c .before .before .before .loop .inv .1, c .before .before .before .loop .inv .2)))
 
--- src/body.rt:84:5
 loop-less : tie.Need-loop-less Inv-loop μ-loop
 loop-less c = omega (arith, c .before .if1 .taken, c .call-at .ensures .0 .0)
 
--- src/body.rt:84:5
 loop-again : tie.Need-loop-again Inv-loop μ-loop
 loop-again c = (
   c .call-at .ensures .0 .1,
@@ -48,7 +43,6 @@ loop-again c = (
   λ b cs h. going-next (c .before .before .before .before .before .before .before .before .args .text .now) (c .before .before .before .before .before .before .before .before .args .table .now) (c .before .before .before .before .before .before .before .before .args .n) (namesAmong (toks (c .before .before .before .before .before .before .before .before .args .text .now) (c .before .before .before .before .before .before .before .before .args .table .now) (c .before .before .before .before .before .before .before .before .args .graph .inputs) 5)) (c .before .before .before .before .before .before .before .before .args .graph .body) (c .before .before .before .before .before .before .before .before .args .graph .end) b cs (c .before .before .before .before .loop .walk) (c .call-at .result) (c .before .if1 .taken) (c .before .before .before .before .before .before .before .before .pre .1 .1) (c .before .before .before .before .loop .inv .3 b cs h) (c .call-at .ensures .1 b),
 )
 
--- src/body.rt:72:1
 returns : tie.Need-returns Inv-loop μ-loop
 returns c = λ b cs h. going-end (c .before .before .before .before .before .before .before .before .args .text .now) (c .before .before .before .before .before .before .before .before .args .table .now) (c .before .before .before .before .before .before .before .before .args .n) (namesAmong (toks (c .before .before .before .before .before .before .before .before .args .text .now) (c .before .before .before .before .before .before .before .before .args .table .now) (c .before .before .before .before .before .before .before .before .args .graph .inputs) 5)) (c .before .before .before .before .before .before .before .before .args .graph .body) (c .before .before .before .before .before .before .before .before .args .graph .end) b cs (c .before .before .before .before .loop .walk) (c .before .if1 .left) (c .before .before .before .before .loop .inv .3 b cs h)
 

@@ -23,55 +23,42 @@ use Rattle.documents.proofs.calls.places_at.Reads as places-at-reads
 use Rattle.documents.proofs.wiring.assigned.Reads as assigned-reads
 use Rattle.documents.proofs.wiring.used.Reads as used-reads
 
--- src/body.rt:55:17
 add-calls : tie.Need-add-calls
 add-calls c = search needs
 
--- src/body.rt:56:9
 places-at-requires : tie.Need-places-at-requires
 places-at-requires c κs = search needs
 
--- src/body.rt:57:16
 add-from : tie.Need-add-from
 add-from c = search needs
 
--- src/body.rt:58:48
 add-is-external : tie.Need-add-is-external
 add-is-external c = search needs
 
--- src/body.rt:58:9
 is-external-requires : tie.Need-is-external-requires
 is-external-requires c κs = search needs
 
--- src/body.rt:59:66
 start-at-requires : tie.Need-start-at-requires
 start-at-requires c κs = search needs
 
--- src/body.rt:59:9
 fault-if-requires : tie.Need-fault-if-requires
 fault-if-requires c κs = search needs
 
--- src/body.rt:60:9
 assigned-requires : tie.Need-assigned-requires
 assigned-requires c κs = (c .before .before .before .before .before .before .before .before .before .before .pre .0, (c .before .before .before .before .before .before .places-at .ensures .0 .from, c .before .before .before .before .before .before .places-at .ensures .0 .left, c .before .before .before .before .before .before .before .before .before .before .pre .1 .0 .1, c .before .before .before .before .before .before .before .before .before .before .pre .1 .1 .1))
 
--- src/body.rt:61:9
 used-requires : tie.Need-used-requires
 used-requires c κs = (c .before .before .before .before .before .before .before .before .before .before .before .pre .0, (omega (arith, c .before .before .before .before .before .before .before .before .before .before .before .pre .1 .0 .0), c .before .before .before .before .before .before .before .places-at .ensures .0 .right, omega (arith, c .before .before .before .before .before .before .before .places-at .ensures .0 .from, c .before .before .before .before .before .before .before .before .before .before .before .pre .1 .1 .2)))
 
--- src/body.rt:63:48
 earlier-requires : tie.Need-earlier-requires
 earlier-requires c κs = search needs
 
--- src/body.rt:63:33
 earlier-requires-2 : tie.Need-earlier-requires-2
 earlier-requires-2 c κs = search needs
 
--- src/body.rt:63:15
 earlier-requires-3 : tie.Need-earlier-requires-3
 earlier-requires-3 c κs = search needs
 
--- src/body.rt:47:1
 returns : tie.Need-returns
 unfolding tokenAt
 returns c = (

@@ -7,19 +7,15 @@ use Rattle.documents.proofs.body.is_external.Tie as tie
 use Rattle.documents.proofs.body.is_external.Reads as reads
 use Rattle.documents.proofs.body.is_external.Lts as lts
 
--- src/body.rt:41:9
 returns : tie.Need-returns
 returns c = λ h. absurd (omega (arith, h, c .if1 .taken))
 
--- src/body.rt:43:30
 slice-aggregate-spelt : tie.Need-slice-aggregate-spelt
 slice-aggregate-spelt c = search needs
 
--- src/body.rt:43:5
 spelt-requires : tie.Need-spelt-requires
 spelt-requires c κs = search needs
 
--- src/body.rt:36:1
 returns-2 : tie.Need-returns-2
 returns-2 c = search needs
 

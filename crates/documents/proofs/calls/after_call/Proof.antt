@@ -8,27 +8,21 @@ use Rattle.documents.proofs.calls.after_call.Reads as reads
 use Rattle.documents.proofs.calls.after_call.Lts as lts
 use Rattle.syntax.proofs.symbol.symbol_at.Reads as symbol-at-reads
 
--- src/calls.rt:89:34
 add-symbol-at : tie.Need-add-symbol-at
 add-symbol-at c = search needs
 
--- src/calls.rt:89:8
 symbol-at-requires : tie.Need-symbol-at-requires
 symbol-at-requires c κs = search needs
 
--- src/calls.rt:90:16
 add-result : tie.Need-add-result
 add-result c = search needs
 
--- src/calls.rt:90:9
 returns : tie.Need-returns
 returns c = past-semicolon (c .before .before .before .before .args .close) (toks (c .before .before .before .before .args .text .now) (c .before .before .before .before .args .table .now) (c .before .before .before .before .args .n) (c .before .before .before .before .args .close + 1)) (c .before .symbol-at .ensures) (c .if1 .taken)
 
--- src/calls.rt:92:5
 add-result-2 : tie.Need-add-result-2
 add-result-2 c = search needs
 
--- src/calls.rt:84:1
 returns-2 : tie.Need-returns-2
 returns-2 c = no-semicolon (c .before .before .before .before .args .close) (toks (c .before .before .before .before .args .text .now) (c .before .before .before .before .args .table .now) (c .before .before .before .before .args .n) (c .before .before .before .before .args .close + 1)) (c .before .symbol-at .ensures) (c .if1 .left)
 

@@ -18,35 +18,27 @@ Inv-loop text table n at depth₀ i₀ depth i = (at ≤ i) × (depth ≤ i + 1)
 abbrev μ-loop : tie.MeasureT-loop
 μ-loop text table n at depth₀ i₀ depth i = n - i
 
--- src/calls.rt:73:5
 loop-holds : tie.Need-loop-holds Inv-loop μ-loop
 loop-holds c = (omega arith, omega arith, refl)
 
--- src/calls.rt:74:33
 symbol-at-requires : tie.Need-symbol-at-requires Inv-loop μ-loop
 symbol-at-requires c κs = search needs
 
--- src/calls.rt:74:9
 open-after-requires : tie.Need-open-after-requires Inv-loop μ-loop
 open-after-requires c κs = omega (arith, c .before .before .loop .inv .1, c .before .before .before .before .before .pre .room, c .before .loop-test .taken)
 
--- src/calls.rt:76:13
 returns : tie.Need-returns Inv-loop μ-loop
 returns c = (omega (arith, c .before .before .before .before .loop .inv .0), omega arith, closed-here (c .before .before .before .before .before .before .before .args .text .now) (c .before .before .before .before .before .before .before .args .table .now) (c .before .before .before .before .before .before .before .args .n) (c .before .before .before .before .loop .i) (c .before .before .before .before .loop .depth) (c .before .before .before .loop-test .taken) (c .before .before .symbol-at .ensures) (c .before .open-after .ensures) (c .if1 .taken) ∙ sym (c .before .before .before .before .loop .inv .2))
 
--- src/calls.rt:78:9
 add-i : tie.Need-add-i Inv-loop μ-loop
 add-i c = search needs
 
--- src/calls.rt:73:5
 loop-less : tie.Need-loop-less Inv-loop μ-loop
 loop-less c = search needs
 
--- src/calls.rt:73:5
 loop-again : tie.Need-loop-again Inv-loop μ-loop
 loop-again c = (omega (arith, c .before .before .before .before .loop .inv .0), omega (arith, c .before .before .before .before .loop .inv .1, c .before .open-after .ensures, open-le (c .before .before .before .before .loop .depth) (c .before .before .symbol-at .result)), c .before .before .before .before .loop .inv .2 ∙ closed-next (c .before .before .before .before .before .before .before .args .text .now) (c .before .before .before .before .before .before .before .args .table .now) (c .before .before .before .before .before .before .before .args .n) (c .before .before .before .before .loop .i) (c .before .before .before .before .loop .depth) (c .before .before .before .loop-test .taken) (c .before .before .symbol-at .ensures) (c .before .open-after .ensures) (c .if1 .left))
 
--- src/calls.rt:67:1
 returns-2 : tie.Need-returns-2 Inv-loop μ-loop
 returns-2 c = (omega arith, omega arith, closed-end (c .before .before .before .before .args .text .now) (c .before .before .before .before .args .table .now) (c .before .before .before .before .args .n) (c .before .loop .i) (c .before .loop .depth) (c .loop-test .left) ∙ sym (c .before .loop .inv .2))
 

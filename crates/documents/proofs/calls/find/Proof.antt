@@ -17,31 +17,24 @@ Inv-loop text table n at s i₀ i = (at ≤ i) × (fromSymbol s (toks text table
 abbrev μ-loop : tie.MeasureT-loop
 μ-loop text table n at s i₀ i = n - i
 
--- src/calls.rt:34:5
 loop-holds : tie.Need-loop-holds Inv-loop μ-loop
 loop-holds c = (omega arith, refl)
 
--- src/calls.rt:35:12
 symbol-at-requires : tie.Need-symbol-at-requires Inv-loop μ-loop
 symbol-at-requires c κs = search needs
 
--- src/calls.rt:36:13
 returns : tie.Need-returns Inv-loop μ-loop
 returns c = (omega (arith, c .before .before .before .loop .inv .0), omega arith, find-here (c .before .before .before .before .before .before .args .text .now) (c .before .before .before .before .before .before .args .table .now) (c .before .before .before .before .before .before .args .n) (c .before .before .before .loop .i) (c .before .before .before .before .before .before .args .s) (c .before .before .loop-test .taken) (c .before .symbol-at .ensures) (c .if1 .taken) ∙ sym (c .before .before .before .loop .inv .1))
 
--- src/calls.rt:38:9
 add-i : tie.Need-add-i Inv-loop μ-loop
 add-i c = search needs
 
--- src/calls.rt:34:5
 loop-less : tie.Need-loop-less Inv-loop μ-loop
 loop-less c = search needs
 
--- src/calls.rt:34:5
 loop-again : tie.Need-loop-again Inv-loop μ-loop
 loop-again c = (omega (arith, c .before .before .before .loop .inv .0), c .before .before .before .loop .inv .1 ∙ find-next (c .before .before .before .before .before .before .args .text .now) (c .before .before .before .before .before .before .args .table .now) (c .before .before .before .before .before .before .args .n) (c .before .before .before .loop .i) (c .before .before .before .before .before .before .args .s) (c .before .before .loop-test .taken) (c .before .symbol-at .ensures) (c .if1 .left))
 
--- src/calls.rt:28:1
 returns-2 : tie.Need-returns-2 Inv-loop μ-loop
 returns-2 c = (omega arith, omega arith, find-end (c .before .before .before .before .args .text .now) (c .before .before .before .before .args .table .now) (c .before .before .before .before .args .n) (c .before .loop .i) (c .before .before .before .before .args .s) (c .loop-test .left) ∙ sym (c .before .loop .inv .1))
 

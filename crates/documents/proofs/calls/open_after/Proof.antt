@@ -5,43 +5,33 @@ use Rattle.documents.proofs.calls.open_after.Tie as tie
 use Rattle.documents.proofs.calls.open_after.Reads as reads
 use Rattle.documents.proofs.calls.open_after.Lts as lts
 
--- src/calls.rt:49:16
 add-result : tie.Need-add-result
 add-result c = search needs
 
--- src/calls.rt:49:9
 returns : tie.Need-returns
 returns c = open-round (c .before .args .k) (c .before .args .s) (c .if1 .taken)
 
--- src/calls.rt:52:16
 add-result-2 : tie.Need-add-result-2
 add-result-2 c = search needs
 
--- src/calls.rt:52:9
 returns-2 : tie.Need-returns-2
 returns-2 c = open-square (c .before .before .args .k) (c .before .before .args .s) (c .if2 .taken)
 
--- src/calls.rt:55:9
 returns-3 : tie.Need-returns-3
 returns-3 c = none-open (c .before .before .before .args .k) (c .before .before .before .args .s) (c .before .before .if1 .left) (c .before .if2 .left) (c .if3 .taken)
 
--- src/calls.rt:58:16
 sub-result : tie.Need-sub-result
 sub-result c = search needs
 
--- src/calls.rt:58:9
 returns-4 : tie.Need-returns-4
 returns-4 c = close-round (c .before .before .before .before .args .k) (c .before .before .before .before .args .s) (c .before .before .before .if1 .left) (c .before .before .if2 .left) (c .before .if3 .left) (c .if4 .taken)
 
--- src/calls.rt:61:16
 sub-result-2 : tie.Need-sub-result-2
 sub-result-2 c = search needs
 
--- src/calls.rt:61:9
 returns-5 : tie.Need-returns-5
 returns-5 c = close-square (c .before .before .before .before .before .args .k) (c .before .before .before .before .before .args .s) (c .before .before .before .before .if1 .left) (c .before .before .before .if2 .left) (c .before .before .if3 .left) (c .if5 .taken)
 
--- src/calls.rt:44:1
 returns-6 : tie.Need-returns-6
 returns-6 c = as-open (c .before .before .before .before .before .args .k) (c .before .before .before .before .before .args .s) (c .before .before .before .before .if1 .left) (c .before .before .before .if2 .left) (c .before .before .if3 .left) (c .before .if4 .left) (c .if5 .left)
 

@@ -10,23 +10,18 @@ use Rattle.documents.proofs.calls.after_call.Reads as after-call-reads
 use Rattle.documents.proofs.calls.closing.Reads as closing-reads
 use Rattle.documents.proofs.calls.find.Reads as find-reads
 
--- src/calls.rt:102:9
 find-requires : tie.Need-find-requires
 find-requires c κs = search needs
 
--- src/calls.rt:103:41
 add-closing : tie.Need-add-closing
 add-closing c = search needs
 
--- src/calls.rt:103:9
 closing-requires : tie.Need-closing-requires
 closing-requires c κs = search needs
 
--- src/calls.rt:107:15
 after-call-requires : tie.Need-after-call-requires
 after-call-requires c κs = search needs
 
--- src/calls.rt:96:1
 returns : tie.Need-returns
 returns c = let f : Found (c .before .before .before .before .before .args .text .now) (c .before .before .before .before .before .args .table .now) (c .before .before .before .before .before .args .n) (c .before .before .before .before .before .args .at) (record { equal = c .before .before .find .result; close = c .before .closing .result; next = c .after-call .result }) =
     record {

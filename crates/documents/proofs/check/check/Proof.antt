@@ -8,25 +8,20 @@ use borrow.Author.Needs.{needs}
 use Rattle.documents.proofs.check.check.Statement.{statement}
 use Rattle.documents.proofs.check.check.Tie as tie
 
--- src/check.rt:130:9
 rooms-serve-requires : tie.Need-rooms-serve-requires
 rooms-serve-requires c κs = search needs
 
--- src/check.rt:131:9
 returns : tie.Need-returns
 returns c =
     let s = c .before .before .before .before .before .before .before .before in
     refused-room (s .args .list .now) (s .args .doc .now) (s .args .work1 .now) (s .args .work2 .now) (s .args .calls .now) (s .args .wires .now) (sym (c .before .rooms-serve .ensures) ∙ not-true _ (c .if1 .taken)) refl
 
--- src/check.rt:138:9
 text-fits-requires : tie.Need-text-fits-requires
 text-fits-requires c κs = search needs
 
--- src/check.rt:139:9
 long-text-requires : tie.Need-long-text-requires
 long-text-requires c κs = search needs
 
--- src/check.rt:139:9
 returns-2 : tie.Need-returns-2
 returns-2 c =
     let s = c .before .before .before .before .before .before .before .before .before .before .before in
@@ -34,15 +29,12 @@ returns-2 c =
     (sym (c .before .before .before .before .rooms-serve .ensures) ∙ not-false _ (c .before .before .before .if1 .left))
     (sym (c .before .before .text-fits .ensures) ∙ not-true _ (c .before .if2 .taken)) (c .long-text .ensures)
 
--- src/check.rt:141:9
 text-fits-requires-2 : tie.Need-text-fits-requires-2
 text-fits-requires-2 c κs = search needs
 
--- src/check.rt:142:9
 long-text-requires-2 : tie.Need-long-text-requires-2
 long-text-requires-2 c κs = search needs
 
--- src/check.rt:142:9
 returns-3 : tie.Need-returns-3
 returns-3 c =
     let s = c .before .before .before .before .before .before .before .before .before .before .before .before .before in
@@ -51,7 +43,6 @@ returns-3 c =
     (sym (c .before .before .before .before .text-fits .ensures) ∙ not-false _ (c .before .before .before .if2 .left))
     (sym (c .before .before .text-fits2 .ensures) ∙ not-true _ (c .before .if3 .taken)) (c .long-text2 .ensures)
 
--- src/check.rt:144:9
 both-answer-requires : tie.Need-both-answer-requires
 both-answer-requires c κs =
     let s = c .before .before .before .before .before .before .before .before .before .before .before .before .before .before .before .before in
@@ -60,31 +51,24 @@ both-answer-requires c κs =
     let d = leb-true (length (s .args .doc .now)) maxText (sym (c .before .before .before .before .before .text-fits2 .ensures) ∙ not-false _ (c .before .before .before .before .if3 .left)) in
     ((l, d), ((r .0, r .1), (r .2, r .3)))
 
--- src/check.rt:145:5
 clear-requires : tie.Need-clear-requires
 clear-requires c κs = search needs
 
--- src/check.rt:146:5
 clear-requires-2 : tie.Need-clear-requires-2
 clear-requires-2 c κs = search needs
 
--- src/check.rt:116:1
 same-length : tie.Need-same-length
 same-length c = search needs
 
--- src/check.rt:116:1
 same-length-2 : tie.Need-same-length-2
 same-length-2 c = search needs
 
--- src/check.rt:116:1
 same-length-3 : tie.Need-same-length-3
 same-length-3 c = search needs
 
--- src/check.rt:116:1
 same-length-4 : tie.Need-same-length-4
 same-length-4 c = search needs
 
--- src/check.rt:116:1
 returns-4 : tie.Need-returns-4
 returns-4 c =
     let s = c .before .before .before .before .before .before .before .before .before .before .before .before .before .before .before .before .before .before .before .before .before .before .before .before .before .before .before .before .before .before .before .before .before in

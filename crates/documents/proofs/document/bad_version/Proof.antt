@@ -18,31 +18,24 @@ use Rattle.documents.proofs.document.bad_version.Tie as tie
 use Rattle.documents.proofs.document.bad_version.Reads as reads
 use Rattle.documents.proofs.document.bad_version.Lts as lts
 
--- src/document.rt:29:9
 none-requires : tie.Need-none-requires
 none-requires c κs = search needs
 
--- src/document.rt:29:9
 returns : tie.Need-returns
 returns c = λ h. absurd (omega (arith, h, c .before .if1 .taken))
 
--- src/document.rt:31:42
 slice-aggregate-spelt : tie.Need-slice-aggregate-spelt
 slice-aggregate-spelt c = search needs
 
--- src/document.rt:31:9
 spelt-requires : tie.Need-spelt-requires
 spelt-requires c κs = search needs
 
--- src/document.rt:32:32
 start-at-requires : tie.Need-start-at-requires
 start-at-requires c κs = search needs
 
--- src/document.rt:32:5
 fault-if-requires : tie.Need-fault-if-requires
 fault-if-requires c κs = search needs
 
--- src/document.rt:24:1
 returns-2 : tie.Need-returns-2
 unfolding tokenAt
 returns-2 c = λ h.

@@ -13,47 +13,36 @@ use Rattle.documents.proofs.document.bad_version.Reads as bad-version-r
 use Rattle.documents.proofs.graph.graph_at.Reads as graph-at-reads
 use Rattle.documents.proofs.wiring.listed.Reads as listed-reads
 
--- src/document.rt:40:9
 graph-at-requires : tie.Need-graph-at-requires
 graph-at-requires c κs = search needs
 
--- src/document.rt:41:9
 bad-version-requires : tie.Need-bad-version-requires
 bad-version-requires c κs = search needs
 
--- src/document.rt:42:9
 listed-requires : tie.Need-listed-requires
 listed-requires c κs = search needs
 
--- src/document.rt:43:9
 listed-requires-2 : tie.Need-listed-requires-2
 listed-requires-2 c κs = search needs
 
--- src/document.rt:44:9
 repeated-requires : tie.Need-repeated-requires
 repeated-requires c κs = search needs
 
--- src/document.rt:45:9
 body-faults-requires : tie.Need-body-faults-requires
 body-faults-requires c κs = search needs
 
--- src/document.rt:46:52
 earlier-requires : tie.Need-earlier-requires
 earlier-requires c κs = search needs
 
--- src/document.rt:46:36
 earlier-requires-2 : tie.Need-earlier-requires-2
 earlier-requires-2 c κs = search needs
 
--- src/document.rt:46:21
 earlier-requires-3 : tie.Need-earlier-requires-3
 earlier-requires-3 c κs = search needs
 
--- src/document.rt:46:5
 earlier-requires-4 : tie.Need-earlier-requires-4
 earlier-requires-4 c κs = search needs
 
--- src/document.rt:36:1
 returns : tie.Need-returns
 returns c = λ b d h.
     own-found (c .before .before .before .before .before .before .before .before .before .before .before .before .args .text .now) (c .before .before .before .before .before .before .before .before .before .before .before .before .args .table .now) (c .before .before .before .before .before .before .before .before .before .before .before .before .args .n) b (c .before .before .before .before .before .before .before .before .before .graph-at .result) d (c .before .before .before .before .before .before .before .before .before .graph-at .ensures .1 b d h) (c .before .before .before .before .before .before .before .before .bad-version .ensures) (c .before .before .before .before .before .before .before .listed .ensures b (d .calls)) (c .before .before .before .before .before .before .listed2 .ensures b (d .calls)) (c .before .before .before .before .before .repeated .ensures) (c .before .before .before .before .body-faults .ensures b (d .calls)) (c .before .before .before .earlier .ensures) (c .before .before .earlier2 .ensures) (c .before .earlier3 .ensures) (c .earlier4 .ensures)

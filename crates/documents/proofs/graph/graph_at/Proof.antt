@@ -10,31 +10,24 @@ use Rattle.documents.proofs.graph.graph_at.Lts as lts
 use Rattle.documents.proofs.calls.find.Reads as find-reads
 use Rattle.documents.proofs.graph.last_of.Reads as last-of-reads
 
--- src/graph.rt:39:9
 find-requires : tie.Need-find-requires
 find-requires c κs = search needs
 
--- src/graph.rt:40:39
 add-find : tie.Need-add-find
 add-find c = search needs
 
--- src/graph.rt:40:9
 find-requires-2 : tie.Need-find-requires-2
 find-requires-2 c κs = search needs
 
--- src/graph.rt:43:18
 add-t6 : tie.Need-add-t6
 add-t6 c = search needs
 
--- src/graph.rt:45:15
 add-t7 : tie.Need-add-t7
 add-t7 c = search needs
 
--- src/graph.rt:46:14
 last-of-requires : tie.Need-last-of-requires
 last-of-requires c κs = search needs
 
--- src/graph.rt:34:1
 returns : tie.Need-returns
 returns c = let f : FoundGraph (c .before .before .before .before .before .args .text .now) (c .before .before .before .before .before .args .table .now) (c .before .before .before .before .before .args .n) (record { inputs = c .before .before .find .result; outputs = c .before .before .find .result + 3; closes = c .before .find2 .result; body = c .before .find2 .result + 2; end = c .last-of .result }) =
     record {

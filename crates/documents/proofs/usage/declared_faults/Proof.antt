@@ -9,55 +9,42 @@ use borrow.Author.Needs.{needs}
 use Rattle.documents.proofs.usage.declared_faults.Statement.{statement}
 use Rattle.documents.proofs.usage.declared_faults.Tie as tie
 
--- src/usage.rt:53:16
 add-args : tie.Need-add-args
 add-args c = search needs
 
--- src/usage.rt:54:33
 add-start-at : tie.Need-add-start-at
 add-start-at c = search needs
 
--- src/usage.rt:54:9
 start-at-requires : tie.Need-start-at-requires
 start-at-requires c κs = search needs
 
--- src/usage.rt:55:77
 add-argument-faults : tie.Need-add-argument-faults
 add-argument-faults c = search needs
 
--- src/usage.rt:55:9
 argument-faults-requires : tie.Need-argument-faults-requires
 argument-faults-requires c κs = search needs
 
--- src/usage.rt:56:46
 add-next-of : tie.Need-add-next-of
 add-next-of c = search needs
 
--- src/usage.rt:56:19
 next-of-requires : tie.Need-next-of-requires
 next-of-requires c κs = search needs
 
--- src/usage.rt:56:19
 add-results : tie.Need-add-results
 add-results c = search needs
 
--- src/usage.rt:57:9
 matches-requires : tie.Need-matches-requires
 matches-requires c κs = search needs
 
--- src/usage.rt:58:48
 start-at-requires-2 : tie.Need-start-at-requires-2
 start-at-requires-2 c κs = let s = c .before .before .before .before .before .before .before .before .before .before in omega (arith, s .pre .1 .0 .room, s .pre .1 .1 .1)
 
--- src/usage.rt:58:19
 fault-if-requires : tie.Need-fault-if-requires
 fault-if-requires c κs = search needs
 
--- src/usage.rt:58:5
 earlier-requires : tie.Need-earlier-requires
 earlier-requires c κs = search needs
 
--- src/usage.rt:36:1
 returns : tie.Need-returns
 returns c =
     let s = c .before .before .before .before .before .before .before .before .before .before .before .before .before in

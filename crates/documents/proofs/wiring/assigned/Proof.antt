@@ -27,27 +27,21 @@ Inv-loop text table n body inputs at equal external count tally₀ i₀ tally i 
 abbrev μ-loop : tie.MeasureT-loop
 μ-loop text table n body inputs at equal external count tally₀ i₀ tally i = equal - i
 
--- src/wiring.rt:160:15
 none-requires : tie.Need-none-requires Inv-loop μ-loop
 none-requires c κs = search needs
 
--- src/wiring.rt:164:5
 loop-holds : tie.Need-loop-holds Inv-loop μ-loop
 loop-holds c = (omega arith, omega (arith, c .before .before .before .pre .1 .0), omega (arith, c .before .before .before .pre .1 .3), λ b cs h e. walking-start (assigning (namesAmong (toks (c .before .before .before .args .text .now) (c .before .before .before .args .table .now) (c .before .before .before .args .inputs) 5)) (c .before .before .before .args .external)) (allAssigned cs) (namesAmong (toks (c .before .before .before .args .text .now) (c .before .before .before .args .table .now) (c .before .before .before .args .equal) (c .before .before .before .args .at))) (ap meant (c .none .ensures) ∙ clean-none) e)
 
--- src/wiring.rt:165:9
 assigned-at-requires : tie.Need-assigned-at-requires Inv-loop μ-loop
 assigned-at-requires c κs = (c .before .before .before .before .before .pre .0, (omega (arith, c .before .before .before .before .before .pre .1 .0, c .before .before .before .before .before .pre .1 .1), omega (arith, c .loop-test .taken, c .before .before .before .before .before .pre .1 .1), c .before .before .before .before .before .pre .1 .2, c .before .loop .inv .2))
 
--- src/wiring.rt:166:9
 add-i : tie.Need-add-i Inv-loop μ-loop
 add-i c = search needs
 
--- src/wiring.rt:164:5
 loop-less : tie.Need-loop-less Inv-loop μ-loop
 loop-less c = search needs
 
--- src/wiring.rt:164:5
 loop-again : tie.Need-loop-again Inv-loop μ-loop
 loop-again c = (
   omega (arith, c .before .before .loop .inv .0),
@@ -58,7 +52,6 @@ loop-again c = (
       (named-step (c .before .before .before .before .before .before .args .text .now) (c .before .before .before .before .before .before .args .table .now) (c .before .before .before .before .before .before .args .equal) (assigning (namesAmong (toks (c .before .before .before .before .before .before .args .text .now) (c .before .before .before .before .before .before .args .table .now) (c .before .before .before .before .before .before .args .inputs) 5)) (c .before .before .before .before .before .before .args .external)) (allAssigned cs) (c .before .before .before .before .before .before .args .at) (c .before .before .loop .i) (meant (c .before .before .loop .tally .best)) (c .before .before .loop .tally .count) (c .before .before .loop .inv .0) (c .before .before .loop .inv .1) w (namesAmong (tokenAt (c .before .before .before .before .before .before .args .text .now) (c .before .before .before .before .before .before .args .table .now) (c .before .before .loop .i) ∷ [])) (c .assigned-at .ensures .1 b cs h)),
 )
 
--- src/wiring.rt:153:1
 returns : tie.Need-returns Inv-loop μ-loop
 returns c = (omega (arith, c .before .loop .inv .1, c .before .loop .inv .2), λ b cs h e. walking-end (assigning (namesAmong (toks (c .before .before .before .before .before .args .text .now) (c .before .before .before .before .before .args .table .now) (c .before .before .before .before .before .args .inputs) 5)) (c .before .before .before .before .before .args .external)) (allAssigned cs) (namesAmong (toks (c .before .before .before .before .before .args .text .now) (c .before .before .before .before .before .args .table .now) (c .before .before .before .before .before .args .equal) (c .before .before .before .before .before .args .at))) (names-end (c .before .before .before .before .before .args .text .now) (c .before .before .before .before .before .args .table .now) (c .before .before .before .before .before .args .equal) (c .before .loop .i) (c .loop-test .left)) (c .before .loop .inv .3 b cs h e))
 

@@ -26,59 +26,45 @@ use Rattle.documents.proofs.wiring.is_again.Reads as is-again-reads
 use Rattle.documents.proofs.wiring.misfeeds.Reads as misfeeds-reads
 use Rattle.syntax.proofs.symbol.symbol_at.Reads as symbol-at-reads
 
--- src/wiring.rt:137:8
 symbol-at-requires : tie.Need-symbol-at-requires
 symbol-at-requires c κs = search needs
 
--- src/wiring.rt:138:9
 returns : tie.Need-returns
 returns c = (omega (arith, c .before .before .before .before .pre .1 .3), λ b cs h e. (skip-fault (assigning (namesAmong (toks (c .before .before .before .before .args .text .now) (c .before .before .before .before .args .table .now) (c .before .before .before .before .args .inputs) 5)) (c .before .before .before .before .args .external)) (allAssigned cs ++ namesAmong (toks (c .before .before .before .before .args .text .now) (c .before .before .before .before .args .table .now) (c .before .before .before .before .args .i) (c .before .before .before .before .args .at))) (meant (c .before .before .before .before .args .tally .best)) (those-none isName (tokenAt (c .before .before .before .before .args .text .now) (c .before .before .before .before .args .table .now) (c .before .before .before .before .args .i)) (no-name (c .before .before .before .before .args .text .now) (c .before .before .before .before .args .table .now) (c .before .before .before .before .args .n) (c .before .before .before .before .args .i) (c .before .before .before .before .pre .1 .1) (c .before .symbol-at .ensures) (c .if1 .taken))), skip-count (allAssigned cs ++ namesAmong (toks (c .before .before .before .before .args .text .now) (c .before .before .before .before .args .table .now) (c .before .before .before .before .args .i) (c .before .before .before .before .args .at))) e (those-none isName (tokenAt (c .before .before .before .before .args .text .now) (c .before .before .before .before .args .table .now) (c .before .before .before .before .args .i)) (no-name (c .before .before .before .before .args .text .now) (c .before .before .before .before .args .table .now) (c .before .before .before .before .args .n) (c .before .before .before .before .args .i) (c .before .before .before .before .pre .1 .1) (c .before .symbol-at .ensures) (c .if1 .taken)))))
 
--- src/wiring.rt:140:16
 add-next : tie.Need-add-next
 add-next c = search needs
 
--- src/wiring.rt:141:9
 start-at-requires : tie.Need-start-at-requires
 start-at-requires c κs = search needs
 
--- src/wiring.rt:142:9
 fault-if-requires : tie.Need-fault-if-requires
 fault-if-requires c κs = search needs
 
--- src/wiring.rt:143:32
 is-again-requires : tie.Need-is-again-requires
 is-again-requires c κs = search needs
 
--- src/wiring.rt:143:9
 fault-if-requires-2 : tie.Need-fault-if-requires-2
 fault-if-requires-2 c κs = search needs
 
--- src/wiring.rt:144:9
 seen-requires : tie.Need-seen-requires
 seen-requires c κs = search needs
 
--- src/wiring.rt:145:33
 misfeeds-requires : tie.Need-misfeeds-requires
 misfeeds-requires c κs = search needs
 
--- src/wiring.rt:145:9
 fault-if-requires-3 : tie.Need-fault-if-requires-3
 fault-if-requires-3 c κs = search needs
 
--- src/wiring.rt:147:49
 earlier-requires : tie.Need-earlier-requires
 earlier-requires c κs = search needs
 
--- src/wiring.rt:147:34
 earlier-requires-2 : tie.Need-earlier-requires-2
 earlier-requires-2 c κs = search needs
 
--- src/wiring.rt:147:15
 earlier-requires-3 : tie.Need-earlier-requires-3
 earlier-requires-3 c κs = search needs
 
--- src/wiring.rt:131:1
 returns-2 : tie.Need-returns-2
 unfolding tokenAt
 returns-2 c = (

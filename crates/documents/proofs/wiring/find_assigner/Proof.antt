@@ -20,38 +20,30 @@ Inv-loop text table n body until t k₀ i₀ k i = (k ≤ i) × ((b : ℕ) (cs :
 abbrev μ-loop : tie.MeasureT-loop
 μ-loop text table n body until t k₀ i₀ k i = until - i
 
--- src/wiring.rt:26:5
 loop-holds : tie.Need-loop-holds Inv-loop μ-loop
 loop-holds c = (omega arith, λ b cs h. look-start (c .before .before .args .text .now) (c .before .before .args .table .now) (c .before .before .args .n) (c .before .before .args .until) b (c .before .before .args .body) cs (tokenAt (c .before .before .args .text .now) (c .before .before .args .table .now) (c .before .before .args .t)) h)
 
--- src/wiring.rt:28:13
 places-at-requires : tie.Need-places-at-requires Inv-loop μ-loop
 places-at-requires c κs = search needs
 
--- src/wiring.rt:29:12
 seen-requires : tie.Need-seen-requires Inv-loop μ-loop
 seen-requires c κs = search needs
 
--- src/wiring.rt:30:13
 returns : tie.Need-returns Inv-loop μ-loop
 returns c = λ b cs h. look-here (c .before .before .before .before .before .before .before .args .text .now) (c .before .before .before .before .before .before .before .args .table .now) (c .before .before .before .before .before .before .before .args .n) (c .before .before .before .before .before .before .before .args .until) b (c .before .before .before .before .loop .i) (c .before .before .before .before .loop .k) cs (tokenAt (c .before .before .before .before .before .before .before .args .text .now) (c .before .before .before .before .before .before .before .args .table .now) (c .before .before .before .before .before .before .before .args .t)) (c .before .before .places-at .result) (c .before .before .places-at .ensures .1) (c .before .before .before .loop-test .taken) (c .before .before .before .before .before .before .before .pre .1 .0) (c .before .before .before .before .loop .inv .1 b cs h) (sym (c .before .seen .ensures) ∙ c .if1 .taken)
 
--- src/wiring.rt:32:9
 add-k : tie.Need-add-k Inv-loop μ-loop
 add-k c = search needs
 
--- src/wiring.rt:26:5
 loop-less : tie.Need-loop-less Inv-loop μ-loop
 loop-less c = omega (arith, c .before .before .places-at .ensures .0 .from, c .before .before .places-at .ensures .0 .on, c .before .before .before .loop-test .taken)
 
--- src/wiring.rt:26:5
 loop-again : tie.Need-loop-again Inv-loop μ-loop
 loop-again c = (
   omega (arith, c .before .before .places-at .ensures .0 .from, c .before .before .places-at .ensures .0 .on, c .before .before .before .before .loop .inv .0),
   λ b cs h. look-next (c .before .before .before .before .before .before .before .args .text .now) (c .before .before .before .before .before .before .before .args .table .now) (c .before .before .before .before .before .before .before .args .n) (c .before .before .before .before .before .before .before .args .until) b (c .before .before .before .before .loop .i) (c .before .before .before .before .loop .k) cs (tokenAt (c .before .before .before .before .before .before .before .args .text .now) (c .before .before .before .before .before .before .before .args .table .now) (c .before .before .before .before .before .before .before .args .t)) (c .before .before .places-at .result) (c .before .before .places-at .ensures .1) (c .before .before .before .loop-test .taken) (c .before .before .before .before .before .before .before .pre .1 .0) (c .before .before .before .before .loop .inv .1 b cs h) (sym (c .before .seen .ensures) ∙ c .if1 .left),
 )
 
--- src/wiring.rt:19:1
 returns-2 : tie.Need-returns-2 Inv-loop μ-loop
 returns-2 c = λ b cs h. look-end (c .before .before .before .before .args .text .now) (c .before .before .before .before .args .table .now) (c .before .before .before .before .args .n) (c .before .before .before .before .args .until) b (c .before .loop .i) (c .before .loop .k) cs (tokenAt (c .before .before .before .before .args .text .now) (c .before .before .before .before .args .table .now) (c .before .before .before .before .args .t)) (c .loop-test .left) (c .before .loop .inv .1 b cs h)
 

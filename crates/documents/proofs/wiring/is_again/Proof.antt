@@ -14,21 +14,17 @@ use Rattle.documents.proofs.wiring.is_again.Reads as reads
 use Rattle.documents.proofs.wiring.is_again.Lts as lts
 use Rattle.documents.proofs.wiring.is_unknown.Reads as is-unknown-reads
 
--- src/wiring.rt:75:8
 is-unknown-requires : tie.Need-is-unknown-requires
 is-unknown-requires c κs = search needs
 
--- src/wiring.rt:76:9
 seen-requires : tie.Need-seen-requires
 seen-requires c κs = search needs
 
--- src/wiring.rt:76:9
 returns : tie.Need-returns
 returns c = λ b cs h.
     let e : isAmong (allAssigned cs) (tokenAt (c .before .before .before .before .before .args .text .now) (c .before .before .before .before .before .args .table .now) (c .before .before .before .before .before .args .i)) ≡ false = not-true (isAmong (allAssigned cs) (tokenAt (c .before .before .before .before .before .args .text .now) (c .before .before .before .before .before .args .table .now) (c .before .before .before .before .before .args .i))) (sym (c .before .before .is-unknown .ensures b cs h) ∙ c .before .if1 .taken) in
     c .seen .ensures ∙ sym (among-append (allAssigned cs) (namesAmong (toks (c .before .before .before .before .before .args .text .now) (c .before .before .before .before .before .args .table .now) (c .before .before .before .before .before .args .i) (c .before .before .before .before .before .args .until))) (tokenAt (c .before .before .before .before .before .args .text .now) (c .before .before .before .before .before .args .table .now) (c .before .before .before .before .before .args .i)) ∙ ap (λ x. x || isAmong (namesAmong (toks (c .before .before .before .before .before .args .text .now) (c .before .before .before .before .before .args .table .now) (c .before .before .before .before .before .args .i) (c .before .before .before .before .before .args .until))) (tokenAt (c .before .before .before .before .before .args .text .now) (c .before .before .before .before .before .args .table .now) (c .before .before .before .before .before .args .i))) e)
 
--- src/wiring.rt:70:1
 returns-2 : tie.Need-returns-2
 returns-2 c = λ b cs h.
     let e : isAmong (allAssigned cs) (tokenAt (c .before .before .before .before .args .text .now) (c .before .before .before .before .args .table .now) (c .before .before .before .before .args .i)) ≡ true = not-false (isAmong (allAssigned cs) (tokenAt (c .before .before .before .before .args .text .now) (c .before .before .before .before .args .table .now) (c .before .before .before .before .args .i))) (sym (c .before .is-unknown .ensures b cs h) ∙ c .if1 .left) in

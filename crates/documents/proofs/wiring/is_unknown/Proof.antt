@@ -10,23 +10,18 @@ use Rattle.documents.proofs.wiring.is_unknown.Reads as reads
 use Rattle.documents.proofs.wiring.is_unknown.Lts as lts
 use Rattle.documents.proofs.wiring.find_assigner.Reads as find-assigner-reads
 
--- src/wiring.rt:63:11
 find-assigner-requires : tie.Need-find-assigner-requires
 find-assigner-requires c κs = search needs
 
--- src/wiring.rt:64:24
 enum-known-k : tie.Need-enum-known-k
 enum-known-k c = search needs
 
--- src/wiring.rt:64:29
 enum-told : tie.Need-enum-told
 enum-told c = search needs
 
--- src/wiring.rt:58:1
 returns : tie.Need-returns
 returns c = λ b cs h. sym (ap not (assigner-known cs (tokenAt (c .before .before .before .before .before .before .args .text .now) (c .before .before .before .before .before .before .args .table .now) (c .before .before .before .before .before .before .args .t)) (c .before .before .before .find-assigner .ensures b cs h) (c .before .k .given .1) .0))
 
--- src/wiring.rt:58:1
 returns-2 : tie.Need-returns-2
 returns-2 c = λ b cs h. sym (ap not (assigner-none cs (tokenAt (c .before .before .before .before .before .args .text .now) (c .before .before .before .before .before .args .table .now) (c .before .before .before .before .before .args .t)) (c .before .before .find-assigner .ensures b cs h) (c .enum-told .given .1)))
 

@@ -25,27 +25,21 @@ Inv-loop text table n body until from to size code tally₀ i₀ tally i = (from
 abbrev μ-loop : tie.MeasureT-loop
 μ-loop text table n body until from to size code tally₀ i₀ tally i = to - i
 
--- src/wiring.rt:118:15
 none-requires : tie.Need-none-requires Inv-loop μ-loop
 none-requires c κs = search needs
 
--- src/wiring.rt:122:5
 loop-holds : tie.Need-loop-holds Inv-loop μ-loop
 loop-holds c = (omega arith, omega arith, λ b cs h. walking-start (listing (c .before .before .before .args .size) (c .before .before .before .args .code) (allAssigned cs)) [] (namesAmong (toks (c .before .before .before .args .text .now) (c .before .before .before .args .table .now) (c .before .before .before .args .to) (c .before .before .before .args .from))) (ap meant (c .none .ensures) ∙ clean-none) refl)
 
--- src/wiring.rt:123:9
 listed-at-requires : tie.Need-listed-at-requires Inv-loop μ-loop
 listed-at-requires c κs = (c .before .before .before .before .before .pre .0, (c .before .before .before .before .before .pre .1 .0, omega (arith, c .loop-test .taken, c .before .before .before .before .before .pre .1 .1), c .before .before .before .before .before .pre .1 .2, c .before .loop .inv .1))
 
--- src/wiring.rt:124:9
 add-i : tie.Need-add-i Inv-loop μ-loop
 add-i c = search needs
 
--- src/wiring.rt:122:5
 loop-less : tie.Need-loop-less Inv-loop μ-loop
 loop-less c = search needs
 
--- src/wiring.rt:122:5
 loop-again : tie.Need-loop-again Inv-loop μ-loop
 loop-again c = (
   omega (arith, c .before .before .loop .inv .0),
@@ -54,7 +48,6 @@ loop-again c = (
       walking-next (listing (c .before .before .before .before .before .before .args .size) (c .before .before .before .before .before .before .args .code) (allAssigned cs)) [] (namesAmong (toks (c .before .before .before .before .before .before .args .text .now) (c .before .before .before .before .before .before .args .table .now) (c .before .before .before .before .before .before .args .to) (c .before .before .before .before .before .before .args .from))) (namesAmong (tokenAt (c .before .before .before .before .before .before .args .text .now) (c .before .before .before .before .before .before .args .table .now) (c .before .before .loop .i) ∷ [])) (namesAmong (toks (c .before .before .before .before .before .before .args .text .now) (c .before .before .before .before .before .before .args .table .now) (c .before .before .before .before .before .before .args .to) (c .before .before .loop .i + 1))) (names-step (c .before .before .before .before .before .before .args .text .now) (c .before .before .before .before .before .before .args .table .now) (c .before .before .before .before .before .before .args .to) (c .before .before .loop .i) (c .before .loop-test .taken)) w (c .listed-at .ensures .1 b cs (w .done) h (w .counted)),
 )
 
--- src/wiring.rt:112:1
 returns : tie.Need-returns Inv-loop μ-loop
 returns c = λ b cs h. walking-end (listing (c .before .before .before .before .before .before .args .size) (c .before .before .before .before .before .before .args .code) (allAssigned cs)) [] (namesAmong (toks (c .before .before .before .before .before .before .args .text .now) (c .before .before .before .before .before .before .args .table .now) (c .before .before .before .before .before .before .args .to) (c .before .before .before .before .before .before .args .from))) (names-end (c .before .before .before .before .before .before .args .text .now) (c .before .before .before .before .before .before .args .table .now) (c .before .before .before .before .before .before .args .to) (c .before .before .loop .i) (c .before .loop-test .left)) (c .before .before .loop .inv .2 b cs h) .0
 

@@ -23,43 +23,33 @@ use Rattle.documents.proofs.wiring.listed_at.Lts as lts
 use Rattle.documents.proofs.wiring.is_unknown.Reads as is-unknown-reads
 use Rattle.syntax.proofs.symbol.symbol_at.Reads as symbol-at-reads
 
--- src/wiring.rt:98:8
 symbol-at-requires : tie.Need-symbol-at-requires
 symbol-at-requires c κs = search needs
 
--- src/wiring.rt:98:9
 returns : tie.Need-returns
 returns c = (omega (arith, c .before .before .before .before .pre .1 .3), λ b cs ss h e. (skip-fault (listing (c .before .before .before .before .args .size) (c .before .before .before .before .args .code) (allAssigned cs)) ss (meant (c .before .before .before .before .args .tally .best)) (those-none isName (tokenAt (c .before .before .before .before .args .text .now) (c .before .before .before .before .args .table .now) (c .before .before .before .before .args .i)) (no-name (c .before .before .before .before .args .text .now) (c .before .before .before .before .args .table .now) (c .before .before .before .before .args .n) (c .before .before .before .before .args .i) (c .before .before .before .before .pre .1 .1) (c .before .symbol-at .ensures) (c .if1 .taken))), skip-count ss e (those-none isName (tokenAt (c .before .before .before .before .args .text .now) (c .before .before .before .before .args .table .now) (c .before .before .before .before .args .i)) (no-name (c .before .before .before .before .args .text .now) (c .before .before .before .before .args .table .now) (c .before .before .before .before .args .n) (c .before .before .before .before .args .i) (c .before .before .before .before .pre .1 .1) (c .before .symbol-at .ensures) (c .if1 .taken)))))
 
--- src/wiring.rt:101:16
 add-next : tie.Need-add-next
 add-next c = search needs
 
--- src/wiring.rt:102:9
 start-at-requires : tie.Need-start-at-requires
 start-at-requires c κs = search needs
 
--- src/wiring.rt:103:9
 fault-if-requires : tie.Need-fault-if-requires
 fault-if-requires c κs = search needs
 
--- src/wiring.rt:104:33
 is-unknown-requires : tie.Need-is-unknown-requires
 is-unknown-requires c κs = search needs
 
--- src/wiring.rt:104:9
 fault-if-requires-2 : tie.Need-fault-if-requires-2
 fault-if-requires-2 c κs = search needs
 
--- src/wiring.rt:106:34
 earlier-requires : tie.Need-earlier-requires
 earlier-requires c κs = search needs
 
--- src/wiring.rt:106:15
 earlier-requires-2 : tie.Need-earlier-requires-2
 earlier-requires-2 c κs = search needs
 
--- src/wiring.rt:92:1
 returns-2 : tie.Need-returns-2
 unfolding tokenAt
 returns-2 c = (

@@ -27,27 +27,21 @@ Inv-loop text table n body at from to count tally₀ i₀ tally i = (from ≤ i)
 abbrev μ-loop : tie.MeasureT-loop
 μ-loop text table n body at from to count tally₀ i₀ tally i = to - i
 
--- src/wiring.rt:216:15
 none-requires : tie.Need-none-requires Inv-loop μ-loop
 none-requires c κs = search needs
 
--- src/wiring.rt:220:5
 loop-holds : tie.Need-loop-holds Inv-loop μ-loop
 loop-holds c = (omega arith, omega arith, omega arith, λ b cs ss h e. walking-start (consuming (allAssigned cs)) ss (usesAmong (toks (c .before .before .before .args .text .now) (c .before .before .before .args .table .now) (c .before .before .before .args .to) (c .before .before .before .args .from))) (ap meant (c .none .ensures) ∙ clean-none) e)
 
--- src/wiring.rt:221:9
 used-at-requires : tie.Need-used-at-requires Inv-loop μ-loop
 used-at-requires c κs = (c .before .before .before .before .before .pre .0, (c .before .before .before .before .before .pre .1 .0, c .before .before .before .before .before .pre .1 .1, c .loop-test .taken, omega (arith, c .before .loop .inv .0, c .before .loop .inv .1, c .before .before .before .before .before .pre .1 .2)))
 
--- src/wiring.rt:222:9
 add-i : tie.Need-add-i Inv-loop μ-loop
 add-i c = search needs
 
--- src/wiring.rt:220:5
 loop-less : tie.Need-loop-less Inv-loop μ-loop
 loop-less c = search needs
 
--- src/wiring.rt:220:5
 loop-again : tie.Need-loop-again Inv-loop μ-loop
 loop-again c = (
   omega (arith, c .before .before .loop .inv .0),
@@ -57,7 +51,6 @@ loop-again c = (
       walking-next (consuming (allAssigned cs)) ss (usesAmong (toks (c .before .before .before .before .before .before .args .text .now) (c .before .before .before .before .before .before .args .table .now) (c .before .before .before .before .before .before .args .to) (c .before .before .before .before .before .before .args .from))) (usesHere (tokenAt (c .before .before .before .before .before .before .args .text .now) (c .before .before .before .before .before .before .args .table .now) (c .before .before .loop .i)) (toks (c .before .before .before .before .before .before .args .text .now) (c .before .before .before .before .before .before .args .table .now) (c .before .before .before .before .before .before .args .to) (c .before .before .loop .i + 1))) (usesAmong (toks (c .before .before .before .before .before .before .args .text .now) (c .before .before .before .before .before .before .args .table .now) (c .before .before .before .before .before .before .args .to) (c .before .before .loop .i + 1))) (uses-step (c .before .before .before .before .before .before .args .text .now) (c .before .before .before .before .before .before .args .table .now) (c .before .before .before .before .before .before .args .to) (c .before .before .loop .i) (c .before .loop-test .taken)) w (c .used-at .ensures .1 b cs (w .done) h (w .counted)),
 )
 
--- src/wiring.rt:209:1
 returns : tie.Need-returns Inv-loop μ-loop
 returns c = (omega (arith, c .before .loop .inv .1, c .before .loop .inv .2), λ b cs ss h e. walking-end (consuming (allAssigned cs)) ss (usesAmong (toks (c .before .before .before .before .before .args .text .now) (c .before .before .before .before .before .args .table .now) (c .before .before .before .before .before .args .to) (c .before .before .before .before .before .args .from))) (uses-end (c .before .before .before .before .before .args .text .now) (c .before .before .before .before .before .args .table .now) (c .before .before .before .before .before .args .to) (c .before .loop .i) (c .loop-test .left)) (c .before .loop .inv .3 b cs ss h e))
 

@@ -22,39 +22,30 @@ use Rattle.documents.proofs.wiring.used_at.Lts as lts
 use Rattle.documents.proofs.wiring.is_unknown.Reads as is-unknown-reads
 use Rattle.documents.proofs.wiring.is_use.Reads as is-use-reads
 
--- src/wiring.rt:194:8
 is-use-requires : tie.Need-is-use-requires
 is-use-requires c κs = search needs
 
--- src/wiring.rt:195:20
 add-next : tie.Need-add-next
 add-next c = search needs
 
--- src/wiring.rt:196:13
 start-at-requires : tie.Need-start-at-requires
 start-at-requires c κs = search needs
 
--- src/wiring.rt:197:13
 fault-if-requires : tie.Need-fault-if-requires
 fault-if-requires c κs = search needs
 
--- src/wiring.rt:193:38
 is-unknown-requires : tie.Need-is-unknown-requires
 is-unknown-requires c κs = search needs
 
--- src/wiring.rt:193:13
 fault-if-requires-2 : tie.Need-fault-if-requires-2
 fault-if-requires-2 c κs = search needs
 
--- src/wiring.rt:200:38
 earlier-requires : tie.Need-earlier-requires
 earlier-requires c κs = search needs
 
--- src/wiring.rt:200:19
 earlier-requires-2 : tie.Need-earlier-requires-2
 earlier-requires-2 c κs = search needs
 
--- src/wiring.rt:199:9
 returns : tie.Need-returns
 unfolding tokenAt
 returns c = (
@@ -70,7 +61,6 @@ returns c = (
       ),
 )
 
--- src/wiring.rt:188:1
 returns-2 : tie.Need-returns-2
 returns-2 c = (
   omega (arith, c .before .before .before .before .pre .1 .3),

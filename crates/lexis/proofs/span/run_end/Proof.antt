@@ -16,39 +16,31 @@ Inv-loop classes text from run i₀ i = from + spanLen (passes run) (drop from t
 abbrev μ-loop : tie.MeasureT-loop
 μ-loop classes text from run i₀ i = length text - i
 
--- src/span.rt:49:5
 loop-holds : tie.Need-loop-holds Inv-loop μ-loop
 loop-holds c = refl
 
--- src/span.rt:50:26
 shared-slice-read-belongs : tie.Need-shared-slice-read-belongs Inv-loop μ-loop
 shared-slice-read-belongs c = search needs
 
--- src/span.rt:50:13
 belongs-requires : tie.Need-belongs-requires Inv-loop μ-loop
 belongs-requires c κs = search needs
 
--- src/span.rt:51:13
 returns : tie.Need-returns Inv-loop μ-loop
 returns c =
     let at-test = c .before .before .before in
     sym (at-test .before .loop .inv ∙ span-stop _ _ _ (at-test .loop-test .taken) (sym (c .before .belongs .ensures) ∙ not-true _ (c .if1 .taken)))
 
--- src/span.rt:53:9
 add-i : tie.Need-add-i Inv-loop μ-loop
 add-i c = search needs
 
--- src/span.rt:49:5
 loop-less : tie.Need-loop-less Inv-loop μ-loop
 loop-less c = search needs
 
--- src/span.rt:49:5
 loop-again : tie.Need-loop-again Inv-loop μ-loop
 loop-again c =
     let at-test = c .before .before .before in
     at-test .before .loop .inv ∙ span-more _ _ _ (at-test .loop-test .taken) (sym (c .before .belongs .ensures) ∙ not-false _ (c .if1 .left))
 
--- src/span.rt:45:1
 returns-2 : tie.Need-returns-2 Inv-loop μ-loop
 returns-2 c = sym (c .before .loop .inv ∙ span-end _ _ _ (c .loop-test .left))
 

@@ -17,99 +17,79 @@ use Rattle.lists.proofs.fitting.fits.Reads as fits-reads
 use Rattle.syntax.proofs.types.type_at.Reads as type-at-reads
 use Rattle.syntax.proofs.symbol.symbol_at.Reads as symbol-at-reads
 
--- src/headers.rt:61:8
 symbol-at-requires : tie.Need-symbol-at-requires
 symbol-at-requires c κs = search needs
 
--- src/headers.rt:62:9
 none-requires : tie.Need-none-requires
 none-requires c κs = search needs
 
--- src/headers.rt:62:9
 returns : tie.Need-returns
 unfolding meant
 returns c =
     let s = c .before .before .before .before .before in
     (λ p us h. absurd (c .before .if1 .taken (c .before .before .symbol-at .ensures ∙ param-named (s .args .text .now) (s .args .table .now) (s .args .n) (s .args .i) h)), λ _. rw (c .none .ensures) refl)
 
--- src/headers.rt:64:41
 add-type-at : tie.Need-add-type-at
 add-type-at c = search needs
 
--- src/headers.rt:64:9
 type-at-requires : tie.Need-type-at-requires
 type-at-requires c κs = search needs
 
--- src/headers.rt:65:22
 enum-known-typed : tie.Need-enum-known-typed
 enum-known-typed c = search needs
 
--- src/headers.rt:66:9
 enum-told : tie.Need-enum-told
 enum-told c = search needs
 
--- src/headers.rt:66:9
 none-requires-2 : tie.Need-none-requires-2
 none-requires-2 c κs = search needs
 
--- src/headers.rt:66:9
 returns-2 : tie.Need-returns-2
 unfolding meant
 returns-2 c =
     let s = c .before .before .before .before .before .before .before .before in
     (λ p us h. absurd (no-fault (s .args .text .now) (s .args .table .now) (s .args .n) (s .args .i) h (length (s .args .text .now)) (c .before .before .before .type-at .ensures) (c .before .enum-told .given .1)), λ _. rw (c .none2 .ensures) refl)
 
--- src/headers.rt:68:8
 symbol-at-requires-2 : tie.Need-symbol-at-requires-2
 symbol-at-requires-2 c κs = search needs
 
--- src/headers.rt:69:9
 none-requires-3 : tie.Need-none-requires-3
 none-requires-3 c κs = search needs
 
--- src/headers.rt:69:9
 returns-3 : tie.Need-returns-3
 unfolding meant
 returns-3 c =
     let s = c .before .before .before .before .before .before .before .before .before .before .before in
     (λ p us h. rw (c .none3 .ensures) (no-default (s .args .text .now) (s .args .table .now) (s .args .n) (s .args .i) h (length (s .args .text .now)) (c .before .before .before .before .before .before .type-at .ensures) (c .before .before .before .before .typed .given .1) (λ z. c .before .if2 .taken (c .before .before .symbol-at2 .ensures ∙ z))), λ _. rw (c .none3 .ensures) refl)
 
--- src/headers.rt:71:29
 add-fits : tie.Need-add-fits
 add-fits c =
     let s = c .before .before .before .before .before .before .before .before .before .before in
     omega (arith, stands (s .args .text .now) (s .args .table .now) (s .args .n) (c .before .before .before .typed .given .0 .0) (sym (c .if2 .left) ∙ c .before .symbol-at2 .ensures) (omega arith))
 
--- src/headers.rt:71:55
 add-fits-2 : tie.Need-add-fits-2
 add-fits-2 c = search needs
 
--- src/headers.rt:71:8
 fits-requires : tie.Need-fits-requires
 fits-requires c κs = search needs
 
--- src/headers.rt:72:9
 none-requires-4 : tie.Need-none-requires-4
 none-requires-4 c κs = search needs
 
--- src/headers.rt:72:9
 returns-4 : tie.Need-returns-4
 unfolding meant
 returns-4 c =
     let s = c .before .before .before .before .before .before .before .before .before .before .before .before .before in
     (λ p us h. rw (c .none4 .ensures) (fitting (s .args .text .now) (s .args .table .now) (s .args .n) (s .args .i) h (length (s .args .text .now)) (c .before .before .before .before .before .before .before .before .type-at .ensures) (c .before .before .before .before .before .before .typed .given .1) (sym (c .before .before .before .before .symbol-at2 .ensures) ∙ c .before .before .before .if2 .left) (c .before .before .fits2 .ensures) (c .before .if3 .taken)), λ _. rw (c .none4 .ensures) refl)
 
--- src/headers.rt:74:31
 add-misfit-at : tie.Need-add-misfit-at
 add-misfit-at c =
     let s = c .before .before .before .before .before .before .before .before .before .before .before .before in
     omega (arith, stands (s .args .text .now) (s .args .table .now) (s .args .n) (c .before .before .before .before .before .typed .given .0 .0) (sym (c .before .before .if2 .left) ∙ c .before .before .before .symbol-at2 .ensures) (omega arith))
 
--- src/headers.rt:74:5
 misfit-at-requires : tie.Need-misfit-at-requires
 misfit-at-requires c κs = search needs
 
--- src/headers.rt:54:1
 returns-5 : tie.Need-returns-5
 returns-5 c =
     let s = c .before .before .before .before .before .before .before .before .before .before .before .before .before in

@@ -23,36 +23,29 @@ Inv-loop text table n from to best₀ i₀ best i = (from ≤ i) × ((i ≤ to) 
 abbrev μ-loop : tie.MeasureT-loop
 μ-loop text table n from to best₀ i₀ best i = to - i
 
--- src/headers.rt:84:9
 none-requires : tie.Need-none-requires Inv-loop μ-loop
 none-requires c κs = search needs
 
--- src/headers.rt:86:5
 loop-holds : tie.Need-loop-holds Inv-loop μ-loop
 unfolding meant
 loop-holds c =
     let s = c .before .before .before in
     (omega arith, (omega (arith, s .pre .1 .1 .0), λ ps r. record { ahead = ps; run = r; so-far = rw (c .none .ensures) refl }))
 
--- src/headers.rt:87:29
 default-at-requires : tie.Need-default-at-requires Inv-loop μ-loop
 default-at-requires c κs =
     let s = c .before .before .before .before .before in
     (s .pre .0, (s .pre .1 .0, omega (arith, s .pre .1 .1 .1, c .loop-test .taken)))
 
--- src/headers.rt:87:9
 earlier-requires : tie.Need-earlier-requires Inv-loop μ-loop
 earlier-requires c κs = search needs
 
--- src/headers.rt:88:9
 add-i : tie.Need-add-i Inv-loop μ-loop
 add-i c = search needs
 
--- src/headers.rt:86:5
 loop-less : tie.Need-loop-less Inv-loop μ-loop
 loop-less c = search needs
 
--- src/headers.rt:86:5
 loop-again : tie.Need-loop-again Inv-loop μ-loop
 loop-again c =
     let s = c .before .before .before .before .before .before .before in
@@ -67,7 +60,6 @@ loop-again c =
       ),
     )
 
--- src/headers.rt:78:1
 returns : tie.Need-returns Inv-loop μ-loop
 returns c =
     let s = c .before .before .before .before .before in

@@ -15,73 +15,59 @@ use Rattle.lists.proofs.names.repeated.Reads as repeated-reads
 use Rattle.lists.proofs.scan.next_of.Reads as next-of-reads
 use Rattle.lists.proofs.scan.over.Reads as over-reads
 
--- src/headers.rt:102:41
 add-next-of : tie.Need-add-next-of
 add-next-of c = search needs
 
--- src/headers.rt:102:9
 next-of-requires : tie.Need-next-of-requires
 next-of-requires c κs = search needs
 
--- src/headers.rt:103:9
 next-of-requires-2 : tie.Need-next-of-requires-2
 next-of-requires-2 c κs =
     let s = c .before .before .before in
     (s .pre .0, c .next-of .ensures .0 .1)
 
--- src/headers.rt:104:47
 add-over : tie.Need-add-over
 add-over c = search needs
 
--- src/headers.rt:104:9
 over-requires : tie.Need-over-requires
 over-requires c κs =
     let s = c .before .before .before .before in
     let r = c .before .next-of .ensures .0 in
     (holds-less (s .pre .0) (r .1), r .0)
 
--- src/headers.rt:105:9
 over-requires-2 : tie.Need-over-requires-2
 over-requires-2 c κs =
     let s = c .before .before .before .before .before in
     let r = c .before .next-of2 .ensures .0 in
     (holds-less (s .pre .0) (r .1), r .0)
 
--- src/headers.rt:106:46
 add-repeated : tie.Need-add-repeated
 add-repeated c = search needs
 
--- src/headers.rt:106:9
 repeated-requires : tie.Need-repeated-requires
 repeated-requires c κs =
     let s = c .before .before .before .before .before .before in
     let r = c .before .before .next-of2 .ensures .0 in
     (holds-less (s .pre .0) (r .1), (omega arith, omega arith))
 
--- src/headers.rt:107:44
 add-defaults : tie.Need-add-defaults
 add-defaults c = search needs
 
--- src/headers.rt:107:9
 defaults-requires : tie.Need-defaults-requires
 defaults-requires c κs =
     let s = c .before .before .before .before .before .before .before in
     let p = c .before .before .before .before .next-of .ensures .0 in
     (s .pre .0, (s .pre .1 .0, (p .0, p .1)))
 
--- src/headers.rt:108:5
 earlier-requires : tie.Need-earlier-requires
 earlier-requires c κs = search needs
 
--- src/headers.rt:108:5
 earlier-requires-2 : tie.Need-earlier-requires-2
 earlier-requires-2 c κs = search needs
 
--- src/headers.rt:108:5
 earlier-requires-3 : tie.Need-earlier-requires-3
 earlier-requires-3 c κs = search needs
 
--- src/headers.rt:96:1
 returns : tie.Need-returns
 returns c =
     let s = c .before .before .before .before .before .before .before .before .before .before .before in

@@ -27,23 +27,19 @@ Inv-loop text table n names best₀ k₀ best k = (k ≤ length names) × ((hs :
 abbrev μ-loop : tie.MeasureT-loop
 μ-loop text table n names best₀ k₀ best k = length names - k
 
--- src/headers.rt:154:9
 too-many-requires : tie.Need-too-many-requires Inv-loop μ-loop
 too-many-requires c κs =
     let s = c .before .before .before in
     (s .pre .0 .room, s .pre .1 .1)
 
--- src/headers.rt:156:5
 loop-holds : tie.Need-loop-holds Inv-loop μ-loop
 loop-holds c =
     let s = c .before .before .before .before in
     (omega arith, λ hs h. rule-start (s .args .text .now) (s .args .table .now) (s .args .n) (s .args .names .now) (s .pre .1 .1) h (c .too-many .ensures))
 
--- src/headers.rt:157:48
 word-requires : tie.Need-word-requires Inv-loop μ-loop
 word-requires c κs = search needs
 
--- src/headers.rt:157:13
 header-rules-requires : tie.Need-header-rules-requires Inv-loop μ-loop
 header-rules-requires c κs =
     let s = c .before .before .before .before .before .before .before in
@@ -51,29 +47,23 @@ header-rules-requires c κs =
     let w = s .pre .1 .1 .below (l .k) (c .before .loop-test .taken) in
     (s .pre .0, (s .pre .1 .0, rw (c .word .ensures) w))
 
--- src/headers.rt:158:29
 repeat-of-requires : tie.Need-repeat-of-requires Inv-loop μ-loop
 repeat-of-requires c κs =
     let s = c .before .before .before .before .before .before .before .before in
     (s .pre .0, (s .pre .1 .1, c .before .before .loop-test .taken))
 
--- src/headers.rt:158:29
 earlier-requires : tie.Need-earlier-requires Inv-loop μ-loop
 earlier-requires c κs = search needs
 
--- src/headers.rt:158:9
 earlier-requires-2 : tie.Need-earlier-requires-2 Inv-loop μ-loop
 earlier-requires-2 c κs = search needs
 
--- src/headers.rt:159:9
 add-k : tie.Need-add-k Inv-loop μ-loop
 add-k c = let h = c .before .before .before .before .before .loop-test .taken in let g = c .before .before .before .before .before .before .before .before .before .before .before .good in let f = c .before .before .before .before .before .before .before .before .before .before .before .fits in omega (arith, g, f)
 
--- src/headers.rt:156:5
 loop-less : tie.Need-loop-less Inv-loop μ-loop
 loop-less c = let h = c .before .before .before .before .before .loop-test .taken in omega arith
 
--- src/headers.rt:156:5
 loop-again : tie.Need-loop-again Inv-loop μ-loop
 loop-again c =
     let s = c .before .before .before .before .before .before .before .before .before .before .before in
@@ -86,7 +76,6 @@ loop-again c =
           (rw (c .before .before .before .before .word .ensures) at (c .before .before .before .header-rules .ensures)) (l .inv .1 hs h)),
     )
 
--- src/headers.rt:148:1
 returns : tie.Need-returns Inv-loop μ-loop
 returns c =
     let s = c .before .before .before .before .before .before in

@@ -9,18 +9,15 @@ use Rattle.lists.proofs.headers.misfit_at.Reads as reads
 use Rattle.lists.proofs.headers.misfit_at.Lts as lts
 use Rattle.syntax.proofs.symbol.place_at.Reads as place-at-reads
 
--- src/headers.rt:46:13
 place-at-requires : tie.Need-place-at-requires
 place-at-requires c κs = search needs
 
--- src/headers.rt:46:13
 cast-t6 : tie.Need-cast-t6
 cast-t6 c =
     let s = c .before .before .before in
     let p = place-in (s .args .text .now) (s .args .table .now) (s .args .n) (s .args .i) (s .pre .0) in
     omega (arith, c .place-at .ensures, s .pre .1)
 
--- src/headers.rt:40:1
 returns : tie.Need-returns
 unfolding meant
 returns c =

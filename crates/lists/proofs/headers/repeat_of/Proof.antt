@@ -18,42 +18,33 @@ use Rattle.lists.proofs.operation.find.Reads as find-reads
 use Rattle.lists.proofs.word.start_at.Reads as start-at-reads
 use Rattle.lists.proofs.word.word.Reads as word-reads
 
--- src/headers.rt:120:9
 word-requires : tie.Need-word-requires
 word-requires c κs = search needs
 
--- src/headers.rt:121:47
 sub-find : tie.Need-sub-find
 sub-find c = search needs
 
--- src/headers.rt:121:47
 part-find-start : tie.Need-part-find-start
 part-find-start c = search needs
 
--- src/headers.rt:121:47
 part-find-end : tie.Need-part-find-end
 part-find-end c = search needs
 
--- src/headers.rt:121:26
 find-requires : tie.Need-find-requires
 find-requires c κs =
     let s = c .before .before .before .before .before in
     let w = s .pre .1 .0 .below (s .args .k) (s .pre .1 .1) in
     (s .pre .0, (places-take (s .args .n) (s .args .k - 0) (s .args .names .now) (omega (arith, s .pre .1 .1)) (s .pre .1 .0), (s .pre .0, rw (c .before .word .ensures) (w .0))))
 
--- src/headers.rt:121:20
 enum-known--k : tie.Need-enum-known--k
 enum-known--k c = search needs
 
--- src/headers.rt:122:9
 enum-told : tie.Need-enum-told
 enum-told c = search needs
 
--- src/headers.rt:122:9
 none-requires : tie.Need-none-requires
 none-requires c κs = search needs
 
--- src/headers.rt:122:9
 returns : tie.Need-returns
 unfolding meant
 returns c =
@@ -64,7 +55,6 @@ returns c =
     ∙ ap (λ (k : ℕ). isAmong (entries (s .args .text .now) (s .args .table .now) (take k (s .args .names .now))) (tokenAt (s .args .text .now) (s .args .table .now) (c .before .before .before .before .before .word .result))) (zero-less (s .args .k))
     ∙ missing-among 0 _ _ (sym (c .before .before .before .find .ensures .0) ∙ c .before .enum-told .given .1)))
 
--- src/headers.rt:125:13
 start-at-requires : tie.Need-start-at-requires
 start-at-requires c κs =
     let s = c .before .before .before .before .before .before .before .before .before in
@@ -72,7 +62,6 @@ start-at-requires c κs =
     let r = s .pre .0 .room in
     omega (arith, c .before .before .before .before .before .word .ensures, w .0)
 
--- src/headers.rt:114:1
 returns-2 : tie.Need-returns-2
 unfolding meant tokenAt
 returns-2 c =

@@ -17,42 +17,35 @@ use Rattle.lists.proofs.best.Best.none.Reads as none-reads
 use Rattle.lists.proofs.word.start_at.Reads as start-at-reads
 use Rattle.lists.proofs.word.word.Reads as word-reads
 
--- src/headers.rt:137:8
 operations-fit-requires : tie.Need-operations-fit-requires
 operations-fit-requires c κs = search needs
 
--- src/headers.rt:138:9
 none-requires : tie.Need-none-requires
 none-requires c κs = search needs
 
--- src/headers.rt:138:9
 returns : tie.Need-returns
 unfolding meant
 returns c =
     let s = c .before .before .before .before .before in
     rw (c .none .ensures) (over-none (λ q. startAt (s .args .table .now) (q - 1)) maxOperations (s .args .names .now) (sym (c .before .before .operations-fit .ensures) ∙ c .before .if1 .taken))
 
--- src/headers.rt:141:29
 word-requires : tie.Need-word-requires
 word-requires c κs =
     let s = c .before .before .before .before in
     leb-false (length (s .args .names .now)) maxOperations (sym (c .before .operations-fit .ensures) ∙ c .if1 .left)
 
--- src/headers.rt:141:29
 sub-start-at : tie.Need-sub-start-at
 sub-start-at c =
     let s = c .before .before .before .before .before in
     let w = s .pre .1 .below maxOperations (leb-false (length (s .args .names .now)) maxOperations (sym (c .before .before .operations-fit .ensures) ∙ c .before .if1 .left)) in
     omega (arith, c .word .ensures, w .1)
 
--- src/headers.rt:141:13
 start-at-requires : tie.Need-start-at-requires
 start-at-requires c κs =
     let s = c .before .before .before .before .before in
     let w = s .pre .1 .below maxOperations (leb-false (length (s .args .names .now)) maxOperations (sym (c .before .before .operations-fit .ensures) ∙ c .before .if1 .left)) in
     omega (arith, c .word .ensures, w .0, w .1, s .pre .0)
 
--- src/headers.rt:132:1
 returns-2 : tie.Need-returns-2
 unfolding meant
 returns-2 c =

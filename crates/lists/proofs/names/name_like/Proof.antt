@@ -8,19 +8,15 @@ use Rattle.lists.proofs.names.name_like.Lts as lts
 use Rattle.lists.proofs.word.alike.Reads as alike-reads
 use Rattle.syntax.proofs.symbol.symbol_at.Reads as symbol-at-reads
 
--- src/names.rt:74:8
 symbol-at-requires : tie.Need-symbol-at-requires
 symbol-at-requires c κs = search needs
 
--- src/names.rt:75:9
 returns : tie.Need-returns
 returns c = simp (no-name (c .before .before .before .before .args .text .now) (c .before .before .before .before .args .table .now) (c .before .before .before .before .args .n) (c .before .before .before .before .args .j) (c .before .before .before .before .pre .1 .0) (c .before .symbol-at .ensures) (c .if1 .taken))
 
--- src/names.rt:77:5
 alike-requires : tie.Need-alike-requires
 alike-requires c κs = search needs
 
--- src/names.rt:69:1
 returns-2 : tie.Need-returns-2
 returns-2 c = simp (is-name (c .before .before .before .before .before .args .text .now) (c .before .before .before .before .before .args .table .now) (c .before .before .before .before .before .args .n) (c .before .before .before .before .before .args .j) (c .before .before .before .before .before .pre .1 .0) (c .before .before .symbol-at .ensures) (c .before .if1 .left)) (c .alike .ensures)
 

@@ -18,32 +18,25 @@ use Rattle.lists.proofs.names.seen.Reads as seen-reads
 use Rattle.lists.proofs.word.start_at.Reads as start-at-reads
 use Rattle.syntax.proofs.symbol.symbol_at.Reads as symbol-at-reads
 
--- src/names.rt:102:8
 symbol-at-requires : tie.Need-symbol-at-requires
 symbol-at-requires c κs = search needs
 
--- src/names.rt:103:9
 none-requires : tie.Need-none-requires
 none-requires c κs = search needs
 
--- src/names.rt:103:9
 returns : tie.Need-returns
 returns c = ap meant (c .none .ensures) ∙ clean-none
     ∙ sym (rule-none (repeating (c .before .before .before .before .before .args .code)) (namesAmong (toks (c .before .before .before .before .before .args .text .now) (c .before .before .before .before .before .args .table .now) (c .before .before .before .before .before .args .i) (c .before .before .before .before .before .args .from))) (tokenAt (c .before .before .before .before .before .args .text .now) (c .before .before .before .before .before .args .table .now) (c .before .before .before .before .before .args .i)) (no-name (c .before .before .before .before .before .args .text .now) (c .before .before .before .before .before .args .table .now) (c .before .before .before .before .before .args .n) (c .before .before .before .before .before .args .i) (c .before .before .before .before .before .pre .1 .0) (c .before .before .symbol-at .ensures) (c .before .if1 .taken)))
 
--- src/names.rt:105:20
 seen-requires : tie.Need-seen-requires
 seen-requires c κs = search needs
 
--- src/names.rt:105:60
 start-at-requires : tie.Need-start-at-requires
 start-at-requires c κs = search needs
 
--- src/names.rt:105:5
 fault-if-requires : tie.Need-fault-if-requires
 fault-if-requires c κs = search needs
 
--- src/names.rt:97:1
 returns-2 : tie.Need-returns-2
 unfolding tokenAt
 returns-2 c = c .fault-if .ensures

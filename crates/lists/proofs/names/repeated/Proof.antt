@@ -25,38 +25,30 @@ Inv-loop text table n from to code best₀ i₀ best i = (from ≤ i) × (first 
 abbrev μ-loop : tie.MeasureT-loop
 μ-loop text table n from to code best₀ i₀ best i = to - i
 
--- src/names.rt:114:9
 none-requires : tie.Need-none-requires Inv-loop μ-loop
 none-requires c κs = search needs
 
--- src/names.rt:116:5
 loop-holds : tie.Need-loop-holds Inv-loop μ-loop
 loop-holds c = (omega arith, walk-start (ap meant (c .none .ensures) ∙ clean-none) (scan-start (repeating (c .before .before .before .args .code)) [] (c .before .before .before .args .text .now) (c .before .before .before .args .table .now) (c .before .before .before .args .from) (c .before .before .before .args .to)))
 
--- src/names.rt:117:29
 repeat-at-requires : tie.Need-repeat-at-requires Inv-loop μ-loop
 repeat-at-requires c κs = search needs
 
--- src/names.rt:117:9
 earlier-requires : tie.Need-earlier-requires Inv-loop μ-loop
 earlier-requires c κs = search needs
 
--- src/names.rt:118:9
 add-i : tie.Need-add-i Inv-loop μ-loop
 add-i c = search needs
 
--- src/names.rt:116:5
 loop-less : tie.Need-loop-less Inv-loop μ-loop
 loop-less c = search needs
 
--- src/names.rt:116:5
 loop-again : tie.Need-loop-again Inv-loop μ-loop
 loop-again c = (
   omega (arith, c .before .before .before .loop .inv .0),
   walk-on (meant (c .before .before .before .loop .best)) (here (repeating (c .before .before .before .before .before .before .before .args .code)) [] (c .before .before .before .before .before .before .before .args .text .now) (c .before .before .before .before .before .before .before .args .table .now) (c .before .before .before .before .before .before .before .args .from) (c .before .before .before .before .before .before .before .args .to) (c .before .before .before .loop .i)) (left (repeating (c .before .before .before .before .before .before .before .args .code)) [] (c .before .before .before .before .before .before .before .args .text .now) (c .before .before .before .before .before .before .before .args .table .now) (c .before .before .before .before .before .before .before .args .from) (c .before .before .before .before .before .before .before .args .to) (c .before .before .before .loop .i + 1)) (c .before .before .before .loop .inv .1) (scan-next (repeating (c .before .before .before .before .before .before .before .args .code)) [] (c .before .before .before .before .before .before .before .args .text .now) (c .before .before .before .before .before .before .before .args .table .now) (c .before .before .before .before .before .before .before .args .from) (c .before .before .before .before .before .before .before .args .to) (c .before .before .before .loop .i) (c .before .before .before .loop .inv .0) (c .before .before .loop-test .taken)) (c .before .repeat-at .ensures) (c .earlier .ensures),
 )
 
--- src/names.rt:109:1
 returns : tie.Need-returns Inv-loop μ-loop
 returns c = walk-end (meant (c .before .loop .best)) (c .before .loop .inv .1) (scan-end (repeating (c .before .before .before .before .before .args .code)) [] (c .before .before .before .before .before .args .text .now) (c .before .before .before .before .before .args .table .now) (c .before .before .before .before .before .args .from) (c .before .before .before .before .before .args .to) (c .before .loop .i) (c .loop-test .left)) ∙ ap first (sym (repeating-is (c .before .before .before .before .before .args .code) [] (namesAmong (toks (c .before .before .before .before .before .args .text .now) (c .before .before .before .before .before .args .table .now) (c .before .before .before .before .before .args .to) (c .before .before .before .before .before .args .from)))))
 

@@ -15,31 +15,24 @@ Inv-loop text table n from to t j₀ j = amongFrom text table to (tokenAt text t
 abbrev μ-loop : tie.MeasureT-loop
 μ-loop text table n from to t j₀ j = to - j
 
--- src/names.rt:87:5
 loop-holds : tie.Need-loop-holds Inv-loop μ-loop
 loop-holds c = refl
 
--- src/names.rt:88:12
 name-like-requires : tie.Need-name-like-requires Inv-loop μ-loop
 name-like-requires c κs = search needs
 
--- src/names.rt:89:13
 returns : tie.Need-returns Inv-loop μ-loop
 returns c = sym (c .before .before .before .loop .inv ∙ found-here (c .before .before .before .before .before .before .args .text .now) (c .before .before .before .before .before .before .args .table .now) (c .before .before .before .before .before .before .args .to) (tokenAt (c .before .before .before .before .before .before .args .text .now) (c .before .before .before .before .before .before .args .table .now) (c .before .before .before .before .before .before .args .t)) (c .before .before .before .loop .j) (c .before .before .loop-test .taken) (sym (c .before .name-like .ensures) ∙ c .if1 .taken))
 
--- src/names.rt:91:9
 add-j : tie.Need-add-j Inv-loop μ-loop
 add-j c = search needs
 
--- src/names.rt:87:5
 loop-less : tie.Need-loop-less Inv-loop μ-loop
 loop-less c = search needs
 
--- src/names.rt:87:5
 loop-again : tie.Need-loop-again Inv-loop μ-loop
 loop-again c = c .before .before .before .loop .inv ∙ found-later (c .before .before .before .before .before .before .args .text .now) (c .before .before .before .before .before .before .args .table .now) (c .before .before .before .before .before .before .args .to) (tokenAt (c .before .before .before .before .before .before .args .text .now) (c .before .before .before .before .before .before .args .table .now) (c .before .before .before .before .before .before .args .t)) (c .before .before .before .loop .j) (c .before .before .loop-test .taken) (sym (c .before .name-like .ensures) ∙ c .if1 .left)
 
--- src/names.rt:81:1
 returns-2 : tie.Need-returns-2 Inv-loop μ-loop
 returns-2 c = sym (c .before .loop .inv ∙ not-found (c .before .before .before .before .args .text .now) (c .before .before .before .before .args .table .now) (c .before .before .before .before .args .to) (tokenAt (c .before .before .before .before .args .text .now) (c .before .before .before .before .args .table .now) (c .before .before .before .before .args .t)) (c .before .loop .j) (c .loop-test .left))
 

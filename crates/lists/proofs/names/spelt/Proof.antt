@@ -10,47 +10,36 @@ use Rattle.lists.proofs.names.spelt.Lts as lts
 use Rattle.lexis.proofs.word.same.Reads as same-reads
 use Rattle.lists.proofs.word.word.Reads as word-reads
 
--- src/names.rt:42:29
 mul-word : tie.Need-mul-word
 mul-word c = search needs
 
--- src/names.rt:42:29
 add-word : tie.Need-add-word
 add-word c = search needs
 
--- src/names.rt:42:9
 word-requires : tie.Need-word-requires
 word-requires c κs = search needs
 
--- src/names.rt:43:27
 mul-word-2 : tie.Need-mul-word-2
 mul-word-2 c = search needs
 
--- src/names.rt:43:27
 add-word-2 : tie.Need-add-word-2
 add-word-2 c = search needs
 
--- src/names.rt:43:9
 word-requires-2 : tie.Need-word-requires-2
 word-requires-2 c κs = search needs
 
--- src/names.rt:44:10
 sub-same : tie.Need-sub-same
 sub-same c = let w = c .before .before .before .before .before .pre .0 .within (c .before .before .before .before .before .args .i) (c .before .before .before .before .before .pre .1) in omega (arith, c .before .word .ensures, c .word2 .ensures)
 
--- src/names.rt:44:10
 part-same-start : tie.Need-part-same-start
 part-same-start c = let w = c .before .before .before .before .before .pre .0 .within (c .before .before .before .before .before .args .i) (c .before .before .before .before .before .pre .1) in omega (arith, c .before .word .ensures, c .word2 .ensures)
 
--- src/names.rt:44:10
 part-same-end : tie.Need-part-same-end
 part-same-end c = let w = c .before .before .before .before .before .pre .0 .within (c .before .before .before .before .before .args .i) (c .before .before .before .before .before .pre .1) in omega (arith, c .before .word .ensures, c .word2 .ensures)
 
--- src/names.rt:44:5
 same-requires : tie.Need-same-requires
 same-requires c κs = search needs
 
--- src/names.rt:37:1
 returns : tie.Need-returns
 unfolding tokenAt
 returns c = c .same .ensures ∙ simp (c .before .before .before .word .ensures, c .before .before .word2 .ensures)

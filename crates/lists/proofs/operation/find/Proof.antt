@@ -19,15 +19,12 @@ Inv-loop text table n names text2 table2 n2 b k₀ k = (k ≤ length names) × (
 abbrev μ-loop : tie.MeasureT-loop
 μ-loop text table n names text2 table2 n2 b k₀ k = length names - k
 
--- src/operation.rt:59:5
 loop-holds : tie.Need-loop-holds Inv-loop μ-loop
 loop-holds c = (omega arith, refl)
 
--- src/operation.rt:60:13
 word-requires : tie.Need-word-requires Inv-loop μ-loop
 word-requires c κs = search needs
 
--- src/operation.rt:61:12
 alike-requires : tie.Need-alike-requires Inv-loop μ-loop
 alike-requires c κs =
     let s = c .before .before .before .before .before .before .before .before in
@@ -35,7 +32,6 @@ alike-requires c κs =
     let p = s .pre .1 .0 .below (l .k) (c .before .loop-test .taken) in
     (s .pre .0, (s .pre .1 .1 .0, (rw (c .word .ensures) (p .0), s .pre .1 .1 .1)))
 
--- src/operation.rt:62:13
 returns : tie.Need-returns Inv-loop μ-loop
 returns c =
     let s = c .before .before .before .before .before .before .before .before .before .before in
@@ -43,22 +39,18 @@ returns c =
     let e = sym (l .inv .1 ∙ search-here (s .args .text .now) (s .args .table .now) (s .args .names .now) (tokenAt (s .args .text2 .now) (s .args .table2 .now) (s .args .b)) (l .k) (c .before .before .before .loop-test .taken) (sym (ap (λ (x : ℕ). sameBytes (tokenAt (s .args .text .now) (s .args .table .now) x .bytes) ((tokenAt (s .args .text2 .now) (s .args .table2 .now) (s .args .b)) .bytes)) (c .before .before .word .ensures)) ∙ sym (c .before .alike .ensures) ∙ c .if1 .taken)) in
     (e, λ d hs h. e ∙ search-found (s .args .text .now) (s .args .table .now) (s .args .names .now) (s .args .n) d (tokenAt (s .args .text2 .now) (s .args .table2 .now) (s .args .b)) hs (s .pre .1 .0) h)
 
--- src/operation.rt:64:9
 add-k : tie.Need-add-k Inv-loop μ-loop
 add-k c = search needs
 
--- src/operation.rt:59:5
 loop-less : tie.Need-loop-less Inv-loop μ-loop
 loop-less c = search needs
 
--- src/operation.rt:59:5
 loop-again : tie.Need-loop-again Inv-loop μ-loop
 loop-again c =
     let s = c .before .before .before .before .before .before .before .before .before .before in
     let l = c .before .before .before .before .loop in
     (omega arith, l .inv .1 ∙ search-next (s .args .text .now) (s .args .table .now) (s .args .names .now) (tokenAt (s .args .text2 .now) (s .args .table2 .now) (s .args .b)) (l .k) (c .before .before .before .loop-test .taken) (sym (ap (λ (x : ℕ). sameBytes (tokenAt (s .args .text .now) (s .args .table .now) x .bytes) ((tokenAt (s .args .text2 .now) (s .args .table2 .now) (s .args .b)) .bytes)) (c .before .before .word .ensures)) ∙ sym (c .before .alike .ensures) ∙ c .if1 .left))
 
--- src/operation.rt:41:1
 returns-2 : tie.Need-returns-2 Inv-loop μ-loop
 returns-2 c =
     let s = c .before .before .before .before .before .before .before in

@@ -16,17 +16,14 @@ Inv-loop text table n at s i₀ i = Scanned text table n at s i
 abbrev μ-loop : tie.MeasureT-loop
 μ-loop text table n at s i₀ i = n - i
 
--- src/scan.rt:23:5
 loop-holds : tie.Need-loop-holds Inv-loop μ-loop
 loop-holds c =
     let a = c .before .before .args in
     scan-begin (a .text .now) (a .table .now) (a .n) (a .at) (a .s) (c .before .before .pre .1)
 
--- src/scan.rt:24:12
 symbol-at-requires : tie.Need-symbol-at-requires Inv-loop μ-loop
 symbol-at-requires c κs = search needs
 
--- src/scan.rt:25:13
 returns : tie.Need-returns Inv-loop μ-loop
 returns c =
     let a = c .before .before .before .before .before .before .args in
@@ -37,15 +34,12 @@ returns c =
     let stop = scan-at (a .text .now) (a .table .now) (a .n) (a .at) (a .s) (l .i) (l .inv) h (sees (a .text .now) (a .table .now) (a .n) (l .i) (a .s) h (c .before .symbol-at .ensures) (c .if1 .taken)) in
     ((low, high), (stop .before, stop .after))
 
--- src/scan.rt:27:9
 add-i : tie.Need-add-i Inv-loop μ-loop
 add-i c = search needs
 
--- src/scan.rt:23:5
 loop-less : tie.Need-loop-less Inv-loop μ-loop
 loop-less c = search needs
 
--- src/scan.rt:23:5
 loop-again : tie.Need-loop-again Inv-loop μ-loop
 loop-again c =
     let a = c .before .before .before .before .before .before .args in
@@ -53,7 +47,6 @@ loop-again c =
     let h = c .before .before .loop-test .taken in
     scan-over (a .text .now) (a .table .now) (a .n) (a .at) (a .s) (l .i) (l .inv) h (sees-not (a .text .now) (a .table .now) (a .n) (l .i) (a .s) h (c .before .symbol-at .ensures) (c .if1 .left))
 
--- src/scan.rt:15:1
 returns-2 : tie.Need-returns-2 Inv-loop μ-loop
 returns-2 c =
     let a = c .before .before .before .before .args in

@@ -21,22 +21,18 @@ Inv-loop text table n at s size i₀ left₀ i left = (i ≤ n) × ((i < n → i
 abbrev μ-loop : tie.MeasureT-loop
 μ-loop text table n at s size i₀ left₀ i left = n - i
 
--- src/scan.rt:38:9
 next-of-requires : tie.Need-next-of-requires Inv-loop μ-loop
 next-of-requires c κs = search needs
 
--- src/scan.rt:40:5
 loop-holds : tie.Need-loop-holds Inv-loop μ-loop
 loop-holds c =
     let a = c .before .before .before .args in
     let r = c .next-of .ensures in
     (r .0 .1, (stands-at (a .text .now) (a .table .now) (a .n) (a .s) (a .at) (c .next-of .result) (a .size) (r .1 .1), beyond-from (a .text .now) (a .table .now) (a .n) (a .s) (a .at) (c .next-of .result) (a .size) (r .1 .1)))
 
--- src/scan.rt:43:21
 start-at-requires : tie.Need-start-at-requires Inv-loop μ-loop
 start-at-requires c κs = search needs
 
--- src/scan.rt:42:13
 returns : tie.Need-returns Inv-loop μ-loop
 unfolding meant tokenAt
 returns c =
@@ -46,26 +42,21 @@ returns c =
     rw (c .start-at .ensures)
     (sym (l .inv .1 .1 ∙ beyond-here (a .text .now) (a .table .now) (a .n) (a .s) (l .i) h (l .inv .1 .0 h) (l .left) (c .before .if1 .taken)))
 
--- src/scan.rt:48:9
 sub-left : tie.Need-sub-left Inv-loop μ-loop
 sub-left c = search needs
 
--- src/scan.rt:49:37
 add-next-of : tie.Need-add-next-of Inv-loop μ-loop
 add-next-of c = search needs
 
--- src/scan.rt:49:9
 next-of-requires-2 : tie.Need-next-of-requires-2 Inv-loop μ-loop
 next-of-requires-2 c κs = search needs
 
--- src/scan.rt:40:5
 loop-less : tie.Need-loop-less Inv-loop μ-loop
 loop-less c =
     let r = c .next-of2 .ensures .0 in
     let h = c .before .before .loop-test .taken in
     omega arith
 
--- src/scan.rt:40:5
 loop-again : tie.Need-loop-again Inv-loop μ-loop
 loop-again c =
     let a = c .before .before .before .before .before .before .before .args in
@@ -74,11 +65,9 @@ loop-again c =
     let r = c .next-of2 .ensures in
     (r .0 .1, (stands-at (a .text .now) (a .table .now) (a .n) (a .s) (l .i + 1) (c .next-of2 .result) (l .left) (r .1 .1), l .inv .1 .1 ∙ beyond-next (a .text .now) (a .table .now) (a .n) (a .s) (l .i) h (l .inv .1 .0 h) (l .left) (c .before .if1 .left) ∙ beyond-from (a .text .now) (a .table .now) (a .n) (a .s) (l .i + 1) (c .next-of2 .result) (l .left - 1) (r .1 .1)))
 
--- src/scan.rt:51:5
 none-requires : tie.Need-none-requires Inv-loop μ-loop
 none-requires c κs = search needs
 
--- src/scan.rt:33:1
 returns-2 : tie.Need-returns-2 Inv-loop μ-loop
 unfolding meant
 returns-2 c =

@@ -10,15 +10,12 @@ use Rattle.lists.proofs.best.Best.fault_if.Reads as reads
 use Rattle.lists.proofs.best.Best.fault_if.Lts as lts
 use Rattle.lists.proofs.best.Best.none.Reads as none-reads
 
--- src/best.rt:33:13
 returns : tie.Need-returns
 returns c = one-fault (c .before .args .test) (c .before .args .code) (c .before .args .at) (c .if1 .taken) (c .before .pre)
 
--- src/best.rt:39:9
 none-requires : tie.Need-none-requires
 none-requires c κs = search needs
 
--- src/best.rt:28:5
 returns-2 : tie.Need-returns-2
 returns-2 c = ap meant (c .none .ensures) ∙ no-fault (c .before .before .args .test) (fault (c .before .before .args .code) (c .before .before .args .at)) (c .before .if1 .left)
 
