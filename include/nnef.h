@@ -2,8 +2,9 @@
  * nnef.h - reads flat NNEF text.
  *
  * Link with libnnef.a, which `rt staticlib nnef` in the repository's root
- * writes to target/staticlib, for x86-64. Of the C library it asks `memset`
- * alone.
+ * writes to target/staticlib, for x86-64; once it is installed, `pkg-config
+ * --cflags --libs sluicegnome` has the flags. Of the C library it asks `memcpy`
+ * and `memset` alone.
  *
  * The library keeps no state and allocates nothing: it works in the buffers
  * that the caller lends it and on the stack. Any number of threads may call it
@@ -26,6 +27,9 @@
 #ifdef __cplusplus
 extern "C" {
 #endif
+
+/* The version of the library that this header belongs to. */
+#define NNEF_LIBRARY_VERSION "1.0.0"
 
 /* Sizes: the most that there may be. */
 #define NNEF_TEXT_BYTES 16384 /* bytes of a text */
@@ -59,9 +63,9 @@ extern "C" {
  * texts, and rounded up.
  */
 #define NNEF_TOKENS_STACK 53248
-#define NNEF_DECLARATIONS_STACK 24576
-#define NNEF_CHECK_STACK 24576
-#define NNEF_CANON_STACK 24576
+#define NNEF_DECLARATIONS_STACK 49152
+#define NNEF_CHECK_STACK 86016
+#define NNEF_CANON_STACK 122880
 
 /* What an operation answers with. */
 typedef struct nnef_answer {
@@ -202,6 +206,103 @@ nnef_answer nnef_canon(const uint8_t *list, size_t list_len,
                        uint32_t *list_work, size_t list_work_len,
                        uint32_t *document_work, size_t document_work_len,
                        uint8_t *out, size_t out_len);
+
+/*
+ * For messages to people. These three are plain C, in this header alone, and
+ * no part of what is proved.
+ */
+
+/* The name of a code as in enum nnef_code, without NNEF_; "UNKNOWN" of any other number. */
+static inline const char *nnef_code_name(uint32_t code)
+{
+    static const char *const names[] = {
+        "ACCEPTED",
+        "LENT_TOO_SHORT",
+        "TEXT_TOO_LONG",
+        "NO_TOKEN",
+        "NUMBER_MISSPELT",
+        "BAD_STRING",
+        "TOKEN_TOO_LONG",
+        "OUT_OF_RANGE",
+        "TOO_MANY_TOKENS",
+        "SYNTAX",
+        "TOO_DEEP",
+        "VERSION",
+        "TOO_MANY",
+        "REPEATED",
+        "BAD_DEFAULT",
+        "UNDECLARED",
+        "MISPLACED",
+        "MISNAMED",
+        "MISFIT",
+        "MISSING",
+        "UNMATCHED",
+        "AGAIN",
+        "UNASSIGNED",
+        "MISFED",
+        "UNMADE",
+        "CANON_TOO_LONG",
+        "OUT_TOO_SHORT"
+    };
+    return code < sizeof names / sizeof *names ? names[code] : "UNKNOWN";
+}
+
+/* What a code says, in a few words of English without a full stop. */
+static inline const char *nnef_code_text(uint32_t code)
+{
+    static const char *const texts[] = {
+        "accepted",
+        "a lent table or work area has too few words",
+        "the text has more than 16384 bytes",
+        "this byte begins no token",
+        "the number is misspelt",
+        "the string is not closed, or holds a byte outside 32 to 126",
+        "the name, string or number is too long",
+        "the number is out of range",
+        "the text has more than 4096 tokens",
+        "no valid text has this token, or ends, here",
+        "a ninth bracket is opened",
+        "the version is not spelt 1.0",
+        "there are more of these than there may be",
+        "the name is repeated",
+        "the default does not fit its parameter's type",
+        "the operation is not declared",
+        "a positional argument may not stand here",
+        "the list has no parameter of this name for the operation, or it is already bound",
+        "the argument does not fit its parameter's type",
+        "a parameter without default is not bound",
+        "the left side does not match the operation's results",
+        "the identifier is assigned again",
+        "no earlier call assigns this identifier",
+        "an input is not assigned by external, or another identifier is",
+        "the output is never assigned",
+        "the canonical text has more than 16384 bytes or 4096 tokens",
+        "the lent output is shorter than the canonical text"
+    };
+    return code < sizeof texts / sizeof *texts ? texts[code] : "no code of this library";
+}
+
+/* A place in a text for people: both numbers count from 1, and the column counts bytes. */
+typedef struct nnef_place {
+    size_t line;
+    size_t column;
+} nnef_place;
+
+/* The place of a position; one beyond the text is taken for its end. A line ends at byte 10. */
+static inline nnef_place nnef_place_of(const uint8_t *text, size_t text_len, size_t position)
+{
+    nnef_place place = {1, 1};
+    size_t i;
+    for (i = 0; i < position && i < text_len; i++) {
+        if (text[i] == 10) {
+            place.line++;
+            place.column = 1;
+        } else {
+            place.column++;
+        }
+    }
+    return place;
+}
 
 #ifdef __cplusplus
 }

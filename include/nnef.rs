@@ -4,6 +4,9 @@
 
 #![allow(dead_code)]
 
+/// The version of the library that this module belongs to.
+pub const LIBRARY_VERSION: &str = "1.0.0";
+
 // Sizes: the most that there may be.
 pub const TEXT_BYTES: usize = 16_384;
 pub const TOKENS: usize = 4_096;
@@ -33,9 +36,9 @@ pub const WIRE_WORDS: usize = 2_048;
 
 // Bytes of stack that a call takes at most.
 pub const TOKENS_STACK: usize = 53_248;
-pub const DECLARATIONS_STACK: usize = 24_576;
-pub const CHECK_STACK: usize = 24_576;
-pub const CANON_STACK: usize = 24_576;
+pub const DECLARATIONS_STACK: usize = 49_152;
+pub const CHECK_STACK: usize = 86_016;
+pub const CANON_STACK: usize = 122_880;
 
 // Codes.
 pub const ACCEPTED: u32 = 0;

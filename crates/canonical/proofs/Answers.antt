@@ -46,8 +46,10 @@ module _ (text table : List ℕ) where
   pub tokens-accepts : (ts : List Token) → tableWords ≤ length table → length text ≤ maxText → lex text ≡ accepted ts
       → (tokensAnswer text table ≡ answer Code.accepted 0 0 (length ts)) × (tokensTable text table ≡ sets table 0 (records ts))
   unfolding tokensAnswer tokensTable
-  tokens-accepts ts r l e =
-      (rw (le-leb tableWords (length table) r, le-leb (length text) maxText l, e) (ap (answer Code.accepted 0 0) (zero-add (length ts))), rw (le-leb tableWords (length table) r, le-leb (length text) maxText l, e))
+  tokens-accepts ts r l e = (
+    rw (le-leb tableWords (length table) r, le-leb (length text) maxText l, e) (ap (answer Code.accepted 0 0) (zero-add (length ts))),
+    rw (le-leb tableWords (length table) r, le-leb (length text) maxText l, e),
+  )
 
   pub tokens-fault : (c p : ℕ) → tableWords ≤ length table → length text ≤ maxText → lex text ≡ refused c p → tokensAnswer text table ≡ answer c 1 p 0
   unfolding tokensAnswer

@@ -18,8 +18,8 @@ use Rattle.lists.specs.Names.{startOf}
 use Rattle.lists.specs.Reading.{Val, bind, allTensor}
 use Rattle.documents.specs.Binding.{Slot, leading, byPlace, later, byName, orElse, slotsFrom, slots, misplacedFrom, misplaced}
 use Rattle.documents.proofs.Items.{clash}
-use Rattle.documents.proofs.Sought.{Nth}
-use Rattle.documents.proofs.Sought.Nth.{first, after}
+use Rattle.documents.specs.Tallies.{Nth}
+use Rattle.documents.specs.Tallies.Nth.{nth-first as first, after}
 use Rattle.documents.proofs.Slots.{drop-later}
 use Rattle.canonical.specs.Plan.{valueFor, valuesFor}
 use Rattle.canonical.specs.Writing.{argumentFor}
@@ -36,7 +36,8 @@ named-only : (j k : ℕ) (p : Param) (ps : List Param) (xs : List Arg) → mispl
 unfolding misplacedFrom byName argumentFor
 named-only j k p ps [] h = refl
 named-only j k p ps (positional v ∷ xs) h = clash cc
-named-only j k p ps (named t v ∷ xs) h = ap (λ (r : Option Value). cond (sameBytes (p .name .bytes) (t .bytes)) (some v) r) (named-only (suc j) k p (later ps) xs h)
+named-only j k p ps (named t v ∷ xs) h =
+    ap (λ (r : Option Value). cond (sameBytes (p .name .bytes) (t .bytes)) (some v) r) (named-only (suc j) k p (later ps) xs h)
 
 -- what binding gives a parameter, by the values from its place on and by its name
 abbrev held : Param → List Value → List Arg → Option Value
@@ -48,7 +49,8 @@ none-left p zero o = refl
 none-left p (suc d) o = refl
 
 -- what the parameter at place d is given by the arguments from number j on
-given-is : (j d : ℕ) {p : Param} {ps : List Param} (xs : List Arg) → misplacedFrom true ps xs ≡ [] → Nth d p ps → held p (drop d (leading xs)) xs ≡ argumentFor j (j + d) p xs
+given-is : (j d : ℕ) {p : Param} {ps : List Param} (xs : List Arg) → misplacedFrom true ps xs ≡ [] → Nth d p ps
+    → held p (drop d (leading xs)) xs ≡ argumentFor j (j + d) p xs
 unfolding misplacedFrom leading byName argumentFor
 given-is j d {p} [] h n = none-left p d nothing
 given-is j d {p} {ps} (named t v ∷ xs) h n = none-left p d _ ∙ named-only j (j + d) p ps (named t v ∷ xs) h
@@ -68,13 +70,15 @@ filledFrom xs k [] = []
 filledFrom xs k (p ∷ ps) = record { param = p; value = argumentFor 0 k p xs } ∷ filledFrom xs (suc k) ps
 
 -- they are the slots where that is what binding gives each parameter
-filled-by : (xs : List Arg) (k : ℕ) (ps : List Param) (vs : List Value) → ((d : ℕ) (p : Param) → Nth d p ps → held p (drop d vs) xs ≡ argumentFor 0 (k + d) p xs)
+filled-by : (xs : List Arg) (k : ℕ) (ps : List Param) (vs : List Value)
+    → ((d : ℕ) (p : Param) → Nth d p ps → held p (drop d vs) xs ≡ argumentFor 0 (k + d) p xs)
     → slotsFrom ps vs xs ≡ filledFrom xs k ps
 unfolding slotsFrom filledFrom
 filled-by xs k [] vs h = refl
 filled-by xs k (p ∷ ps) vs h =
     let e : k + 0 ≡ k = omega arith in
-    ap₂ (λ (o : Option Value) (ss : List Slot). record { param = p; value = o } ∷ ss) (h 0 p first ∙ ap (λ (m : ℕ). argumentFor 0 m p xs) e) (filled-by xs (suc k) ps (later vs) next)
+    ap₂ (λ (o : Option Value) (ss : List Slot). record { param = p; value = o } ∷ ss) (h 0 p first ∙ ap (λ (m : ℕ). argumentFor 0 m p xs) e)
+    (filled-by xs (suc k) ps (later vs) next)
   where
     next : (d : ℕ) (q : Param) → Nth d q ps → held q (drop d (later vs)) xs ≡ argumentFor 0 (suc k + d) q xs
     next d q n =
@@ -98,7 +102,8 @@ pub values-more : (xs : List Arg) (k : ℕ) (p : Param) (ps : List Param) {vs : 
 unfolding valuesFor filledFrom
 values-more xs k p ps {vs} h = go (valueFor (record { param = p; value = argumentFor 0 k p xs })) refl (valuesFor (filledFrom xs (suc k) ps)) refl h
   where
-    go : (o : Option Val) → valueFor (record { param = p; value = argumentFor 0 k p xs }) ≡ o → (os : Option (List Val)) → valuesFor (filledFrom xs (suc k) ps) ≡ os
+    go : (o : Option Val) → valueFor (record { param = p; value = argumentFor 0 k p xs }) ≡ o → (os : Option (List Val))
+        → valuesFor (filledFrom xs (suc k) ps) ≡ os
         → bind o (λ v. bind os (λ us. some (v ∷ us))) ≡ some vs → Values xs k p ps vs
     go nothing e os f z = clash cc
     go (some v) e nothing f z = clash cc

@@ -2,6 +2,7 @@
 -- one at a time; the document.
 use mathlib.Core.Path.{_≡_, sym, ap, subst, _∙_}
 use mathlib.Core.List.{List, [], _∷_, flatMap, append-eq-nil-iff}
+use mathlib.Core.Bool.{false}
 use mathlib.Core.Option.{Option, some}
 use Prim.Native.Nat.{ℕ, _<_, _≤_}
 use Rattle.lexis.specs.Ascii.{ascii}
@@ -15,19 +16,22 @@ use Rattle.syntax.specs.Table.{toks}
 use Rattle.lists.specs.Reading.{readAt, resultType}
 use Rattle.lists.specs.Found.{find}
 use Rattle.documents.specs.Binding.{slots, misplaced}
-use Rattle.documents.specs.DocumentRules.{byOperation, argumentFaults, documentFaults, boundAt, leftFaults}
+use Rattle.documents.specs.DocumentRules.{byOperation, argumentFaults, documentFaults, boundAt}
 use Rattle.documents.specs.Calls.{Calls, CallAt}
 use Rattle.documents.specs.declared.calls.Places.{Places}
 use Rattle.documents.proofs.Lookups.{calls-more, calls-none}
 use Rattle.canonical.specs.declared.place.Place.{Place}
 use Rattle.canonical.specs.Plan.{PlanCall, Plan, valuesFor, planCall, planCalls, spellings, planOf}
 use Rattle.canonical.specs.Pieces.{Piece}
-use Rattle.canonical.specs.Layout.{spaced, lined, namePiece, mark, namesPieces, leftPieces, argumentsPieces, paramsOf, callPieces, callsPieces, documentPieces}
-use Rattle.canonical.specs.Writing.{Puts, PutsAll}
+use Rattle.canonical.specs.Pieces.{text as pieceText}
+use Rattle.canonical.specs.Layout.{spaced, lined, namePiece, mark, namesPieces, leftPieces, argumentsPieces, paramsOf, callPieces, callsPieces}
+use Rattle.canonical.specs.Layout.{documentPieces}
+use Rattle.canonical.specs.Writing.{stored, placeAfter, keepsLimits, start, Puts, PutsWithin, put, over, PutsAll, all-put, left-over}
 use Rattle.canonical.proofs.Found.{params-found}
 use Rattle.canonical.proofs.Planned.{bound, both, planned}
 use Rattle.canonical.proofs.PlanExists.{row-none}
-use Rattle.canonical.proofs.Putting.{puts-none, puts-then, puts-stored, puts-onward}
+use Rattle.canonical.proofs.Putting.{puts-then, puts-stored, puts-onward}
+use Rattle.canonical.proofs.Measures.{stays-over}
 
 -- ---- no faults
 
@@ -50,7 +54,8 @@ placed-none : (hs : List Header) (c : Call) {h : Header} → find hs (c .op) ≡
 unfolding argumentFaults
 placed-none hs c e f = row-none _ (ap (λ (o : Option Header). byOperation o (λ h. boundAt (c .op .start) h c) []) (sym e) ∙ f) .0
 
-pub under : (hs : List Header) (c : Call) {h : Header} {p : PlanCall} → find hs (c .op) ≡ some h → argumentFaults hs c ≡ [] → planCall hs c ≡ some p → Under hs h c p
+pub under : (hs : List Header) (c : Call) {h : Header} {p : PlanCall} → find hs (c .op) ≡ some h → argumentFaults hs c ≡ [] → planCall hs c ≡ some p
+    → Under hs h c p
 under hs c {h} {p} e f g =
     let w = planned hs c g in
     let same : w .header ≡ h = cc (w .found, e) in
@@ -79,59 +84,88 @@ module _ {hs : List Header} {h : Header} {c : Call} {p : PlanCall} (u : Under hs
 -- ---- calls
 
 module _ (text table : List ℕ) (n end : ℕ) (hs : List Header) (all : List Piece → List Piece) (out₀ : List ℕ) (s₀ : Place) where
-  -- at place i: the calls that are left, and their plans; once these are put, all is
+  -- at place i: the calls that are left, and their plans; all goes on with theirs from here
   pub record Ahead (i : ℕ) (out : List ℕ) (s : Place) : Type 0 where
     pub calls : List Call
     pub plans : List PlanCall
     pub are : Calls maxBrackets (toks text table n i) calls (toks text table n end)
     pub clean : flatMap (argumentFaults hs) calls ≡ []
     pub planned : planCalls hs calls ≡ some plans
-    pub join : {out' : List ℕ} {s' : Place} → Puts (callsPieces hs plans) out out' s s' → Puts all out₀ out' s₀ s'
+    pub bytes : (r : List Piece) → stored out₀ (s₀ .bytes) (pieceText (all r)) ≡ stored out (s .bytes) (pieceText (callsPieces hs plans r))
+    pub place : (r : List Piece) → placeAfter s₀ (all r) ≡ placeAfter s (callsPieces hs plans r)
 
   pub ahead-next : (i : ℕ) (p : Places) {out out' : List ℕ} {s s' : Place} → i < end → end ≤ n
       → ((b : ℕ) (c : Call) (us : List Token) → call b (toks text table n i) ≡ ok c us → CallAt text table n i p c us)
-      → ((c : Call) (us : List Token) (q : PlanCall) → call maxBrackets (toks text table n i) ≡ ok c us → CallAt text table n i p c us → argumentFaults hs c ≡ [] → planCall hs c ≡ some q → Puts (callPieces hs q) out out' s s')
+      → ((c : Call) (us : List Token) (q : PlanCall) → call maxBrackets (toks text table n i) ≡ ok c us → CallAt text table n i p c us
+      → argumentFaults hs c ≡ [] → planCall hs c ≡ some q → Puts (callPieces hs q) out out' s s')
       → Ahead i out s → Ahead (p .next) out' s'
   unfolding flatMap planCalls callsPieces
-  ahead-next i p {out} {out'} {s} {s'} h l at put w =
+  ahead-next i p {out} {out'} {s} {s'} h l at puts w =
       let m = calls-more text table n end maxBrackets i (w .calls) h l (w .are) in
       let a = at maxBrackets (m .one) (m .after) (m .is) in
-      let f = append-eq-nil-iff {p = argumentFaults hs (m .one)} {q = flatMap (argumentFaults hs) (m .others)} .0 (ap (flatMap (argumentFaults hs)) (sym (m .whole)) ∙ w .clean) in
+      let f = append-eq-nil-iff {p = argumentFaults hs (m .one)} {q = flatMap (argumentFaults hs) (m .others)} .0
+      (ap (flatMap (argumentFaults hs)) (sym (m .whole)) ∙ w .clean) in
       let x = both (planCall hs (m .one)) (planCalls hs (m .others)) (λ q qs. q ∷ qs) (ap (planCalls hs) (sym (m .whole)) ∙ w .planned) in
-      let here = put (m .one) (m .after) (x .one) (m .is) a (f .0) (x .one-there) in
+      let here = puts (m .one) (m .after) (x .one) (m .is) a (f .0) (x .one-there) in
       record {
         calls = m .others;
         plans = x .two;
         are = rw (a .after) at (m .on);
         clean = f .1;
         planned = x .two-there;
-        join = λ {out' = o} {s' = t} q. w .join (subst (λ (ps : List PlanCall). Puts (callsPieces hs ps) out o s t) (x .made) (puts-then here q));
+        bytes = λ r. w .bytes r ∙ ap (λ (ps : List PlanCall). stored out (s .bytes) (pieceText (callsPieces hs ps r))) (sym (x .made)) ∙ here .bytes
+            (callsPieces hs (x .two) r);
+        place = λ r. w .place r ∙ ap (λ (ps : List PlanCall). placeAfter s (callsPieces hs ps r)) (sym (x .made)) ∙ here .place (callsPieces hs (x .two) r);
       }
 
-  pub ahead-end : (i : ℕ) {out : List ℕ} {s : Place} → end ≤ i → Ahead i out s → Puts all out₀ out s₀ s
+  pub ahead-end : (i : ℕ) {out : List ℕ} {s : Place} → end ≤ i → Ahead i out s → PutsWithin all out₀ out s₀ s
   unfolding planCalls callsPieces
   ahead-end i {out} {s} h w =
       let z = calls-none text table n end maxBrackets i (w .calls) h (w .are) in
       let e : [] ≡ w .plans = cc (ap (planCalls hs) (sym z) ∙ w .planned) in
-      w .join (subst (λ (ps : List PlanCall). Puts (callsPieces hs ps) out out s s) e puts-none)
+      put (record {
+        bytes = λ r. w .bytes r ∙ ap (λ (ps : List PlanCall). stored out (s .bytes) (pieceText (callsPieces hs ps r))) (sym e);
+        place = λ r. w .place r ∙ ap (λ (ps : List PlanCall). placeAfter s (callsPieces hs ps r)) (sym e);
+      })
+
+  -- beyond the limits no further call matters
+  pub ahead-over : (i : ℕ) {out : List ℕ} {s : Place} → keepsLimits s ≡ false → Ahead i out s → PutsWithin all out₀ out s₀ s
+  ahead-over i {s = s} f w = over f (λ r. ap keepsLimits (w .place r) ∙ stays-over s (callsPieces hs (w .plans) r) f)
 
 -- ---- the document
 
-abbrev start : Place
-start = record { bytes = 0; tokens = 0 }
-
 pub puts-document : (hs : List Header) (d : Document) {p : Plan} {o₀ o₁ o₂ o₃ : List ℕ} {s₁ s₂ s₃ : Place} → planOf hs d ≡ some p
     → Puts (λ q.
-    spaced Kind.keyword (ascii "version") ∷ lined Kind.real (ascii "1.0") ∷ spaced Kind.keyword (ascii "graph") ∷ namePiece (d .graph .bytes) ∷ mark (ascii "(")
+    spaced Kind.keyword (ascii "version") ∷ lined Kind.real (ascii "1.0") ∷ spaced Kind.keyword (ascii "graph") ∷ namePiece (d .graph .bytes) ∷ mark
+    (ascii "(")
     ∷ namesPieces (spellings (d .inputs)) (mark (ascii ")") ∷ mark (ascii "->") ∷ mark (ascii "(")
     ∷ namesPieces (spellings (d .outputs)) (lined Kind.syntactic (ascii ")") ∷ lined Kind.syntactic (ascii "{") ∷ q))) o₀ o₁ start s₁
-    → ((cs : List PlanCall) → planCalls hs (d .calls) ≡ some cs → Puts (callsPieces hs cs) o₁ o₂ s₁ s₂)
+    → ((cs : List PlanCall) → planCalls hs (d .calls) ≡ some cs → PutsWithin (callsPieces hs cs) o₁ o₂ s₁ s₂)
     → Puts (λ q. lined Kind.syntactic (ascii "}") ∷ q) o₂ o₃ s₂ s₃
     → PutsAll (documentPieces hs p) o₀ o₃ s₃
 unfolding planOf documentPieces
-puts-document hs d {p} {o₀} {o₃ = o₃} {s₃ = s₃} e h c k =
-    let made : List PlanCall → Plan = λ cs. record { graph = d .graph .bytes; inputs = spellings (d .inputs); outputs = spellings (d .outputs); calls = cs } in
+puts-document hs d {p} {o₀} {o₁} {o₂} {o₃} {s₁} {s₂} {s₃} e h c k =
+    let made : List PlanCall → Plan = λ cs. record {
+      graph = d .graph .bytes;
+      inputs = spellings (d .inputs);
+      outputs = spellings
+          (d .outputs);
+      calls = cs;
+    } in
     let x = bound (planCalls hs (d .calls)) (λ cs. some (made cs)) e in
     let is : made (x .it) ≡ p = cc (x .gives) in
-    let all = puts-then h (puts-then (c (x .it) (x .there)) k) in
-    subst (λ (y : Plan). PutsAll (documentPieces hs y) o₀ o₃ s₃) is (record { bytes = puts-stored all; place = puts-onward all })
+    subst (λ (y : Plan). PutsAll (documentPieces hs y) o₀ o₃ s₃) is (go (x .it) (c (x .it) (x .there)))
+  where
+    close : List Piece
+    close = lined Kind.syntactic (ascii "}") ∷ []
+
+    go : (cs : List PlanCall) → PutsWithin (callsPieces hs cs) o₁ o₂ s₁ s₂
+        → PutsAll (documentPieces hs (record {
+          graph = d .graph .bytes;
+          inputs = spellings (d .inputs);
+          outputs = spellings
+              (d .outputs);
+          calls = cs;
+        })) o₀ o₃ s₃
+    go cs (put q) = let all = puts-then h (puts-then q k) in all-put (puts-stored all) (puts-onward all)
+    go cs (over f g) = left-over (ap keepsLimits (puts-onward k) ∙ stays-over s₂ close f) (ap keepsLimits (h .place (callsPieces hs cs close)) ∙ g close)

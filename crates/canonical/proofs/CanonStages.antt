@@ -1,15 +1,16 @@
 -- From what the stages of both texts come to, to all that `canon` ensures. In order: the stages after those of both texts, and their codes;
--- the size of pieces as it is measured; the pieces of a document that has passed, measured and written; the guards.
-use mathlib.Core.Path.{_≡_, refl, sym, ap, ap₂, _∙_}
-use mathlib.Core.Bool.{Bool, true, false, _&&_, _||_, and-eq-true-iff}
-use mathlib.Core.List.{List, [], _++_}
+-- the size of pieces as it is counted; the pieces of a document that has passed, put into a buffer and written; the guards.
+use mathlib.Core.Path.{_≡_, refl, sym, ap, ap₂, subst, _∙_}
+use mathlib.Core.Bool.{Bool, true, false, _&&_, and-eq-true-iff, true≢false}
+use mathlib.Core.List.{List, []}
 use mathlib.Core.Option.{Option, some}
-use Prim.Native.Nat.{ℕ, suc, _-_, _+_, _≤_, _<_, min}
+use Prim.Native.Nat.{ℕ, _-_, _≤_, _<_}
 use native.Mathlib.Omega.{arith}
-use borrow.Author.Tests.{le-leb, lt-leb, leb-true, leb-false, ne-eqb}
-use lib.Dec.{leb, eqb}
-use lib.ListN.{length, take, drop, replicate}
+use borrow.Author.Tests.{le-leb, lt-leb, leb-true}
+use lib.Dec.{leb}
+use lib.ListN.{length, take, replicate}
 use Rattle.lexis.specs.Sizes.{maxText, maxTokens, maxBrackets, workWords}
+use Rattle.lexis.specs.Bytes.{classTable}
 use Rattle.lexis.specs.Code as L
 use Rattle.lexis.specs.Answer.{answer}
 use Rattle.lexis.specs.declared.Answer.{Answer}
@@ -24,16 +25,17 @@ use Rattle.lists.proofs.Guards.{guard-room, guard-list, guard-document, guard-n
 use Rattle.lists.proofs.First.{first-none}
 use Rattle.documents.specs.DocumentRules.{documentFaults}
 use Rattle.documents.specs.Answer.{bothStages, Checked}
-use Rattle.documents.specs.Stages.{BothPassed}
 use Rattle.documents.proofs.Refusals.{both-codes}
-use Rattle.documents.proofs.BothStages.{list-clean, document-clean, part-heads, part-places, both-under}
+use Rattle.documents.proofs.BothStages.{list-clean, document-clean, both-under}
+use Rattle.canonical.specs.Code as Code
 use Rattle.canonical.specs.Plan.{Plan, planOf}
 use Rattle.canonical.specs.Pieces.{Piece, text}
 use Rattle.canonical.specs.Layout.{documentPieces}
 use Rattle.canonical.specs.Answer.{laidOut, layoutOf, writingStages, textStages, CanonRoom, canonRoom, canonServes, written, canonAnswer, outputAfter}
-use Rattle.canonical.specs.Writing.{stored, placeAfter, PutsAll, Ranged, Wrote}
+use Rattle.canonical.specs.Writing.{stored, placeAfter, keepsLimits, PutsAll, all-put, left-over, Ranged, Wrote, TextsNamed}
 use Rattle.canonical.specs.declared.place.Place.{Place}
-use Rattle.canonical.proofs.Measures.{passed-is, tallied-is, stored-is, stored-none, ranged}
+use Rattle.canonical.proofs.Putting.{stored-length}
+use Rattle.canonical.proofs.Measures.{passed-is, stored-is, stored-front, limits-kept, ranged}
 use Rattle.canonical.proofs.PlanExists.{plan-exists}
 
 -- ---- the stages
@@ -68,60 +70,42 @@ module _ (list doc : List ℕ) (out : ℕ) where
 
       go : (s : Stage Checked) → bothStages list doc ≡ s → andThen s writes ≡ stop r → 3 ≤ r .code
       go (stop q) e k = both-codes list doc r (e ∙ ap (λ (x : Answer). stop x) (ap (λ (x : Stage (List ℕ)). stageAnswer x length) k))
-      go (pass c) e k = let ps = layoutOf (c .headers) (c .document) in size (text ps) (leb (length (text ps)) maxText && leb (length ps) maxTokens) (leb (length (text ps)) out) k
+      go (pass c) e k = let ps = layoutOf (c .headers) (c .document) in size (text ps) (leb (length (text ps)) maxText && leb (length ps) maxTokens)
+          (leb (length (text ps)) out) k
 
 -- ---- the size of pieces
 
--- a count that stops one beyond its limit tells whether it is kept
-capped : (n m : ℕ) → leb (min n (suc m)) m ≡ leb n m
-capped n m = go (leb n m) refl
-  where
-    go : (b : Bool) → leb n m ≡ b → leb (min n (suc m)) m ≡ b
-    go true e = let l = leb-true n m e in le-leb (min n (suc m)) m (omega (arith, l))
-    go false e = let l = leb-false n m e in lt-leb (min n (suc m)) m (omega (arith, l))
-
-abbrev keepsLimits : Place → Bool
-keepsLimits s = leb (s .bytes) maxText && leb (s .tokens) maxTokens
+pub few : (s : Place) → keepsLimits s ≡ true → s .bytes ≤ maxText
+few s k = leb-true (s .bytes) maxText (and-eq-true-iff (leb (s .bytes) maxText) (leb (s .tokens) maxTokens) .0 k .0)
 
 -- pieces that were put, whatever the output
-module _ {ps : List Piece} {out out' : List ℕ} {s : Place} (w : PutsAll ps out out' s) where
-  bytes-are : s .bytes ≡ min (length (text ps)) (suc maxText)
+module _ {ps : List Piece} {out out' : List ℕ} {s : Place} where
+  limits-are : PutsAll ps out out' s → keepsLimits s ≡ (leb (length (text ps)) maxText && leb (length ps) maxTokens)
+  limits-are (all-put o e) = ap keepsLimits e ∙ limits-kept ps
+  limits-are (left-over f g) = f ∙ sym g ∙ limits-kept ps
+
+  -- where they keep the limits, their bytes are counted in full, and they are put
+  in-full : PutsAll ps out out' s → keepsLimits s ≡ true → (s .bytes ≡ length (text ps)) × (out' ≡ stored out 0 (text ps))
   unfolding placeAfter
-  bytes-are = let e = ap (λ (x : Place). x .bytes) (w .place) ∙ passed-is 0 (text ps) (omega arith) in omega (arith, e)
-
-  tokens-are : s .tokens ≡ min (length ps) (suc maxTokens)
-  unfolding placeAfter
-  tokens-are = let e = ap (λ (x : Place). x .tokens) (w .place) ∙ tallied-is 0 ps (omega arith) in omega (arith, e)
-
-  pub bytes-few : s .bytes ≤ suc maxText
-  bytes-few = let e = bytes-are in omega (arith, e)
-
-  limits-are : keepsLimits s ≡ (leb (length (text ps)) maxText && leb (length ps) maxTokens)
-  limits-are =
-      ap₂ (λ (x y : ℕ). leb x maxText && leb y maxTokens) bytes-are tokens-are
-      ∙ ap₂ _&&_ (capped (length (text ps)) maxText) (capped (length ps) maxTokens)
-
-  -- where they keep the limits, their bytes are counted in full
-  all-counted : keepsLimits s ≡ true → s .bytes ≡ length (text ps)
-  all-counted e =
-      let l = leb-true (s .bytes) maxText (and-eq-true-iff (leb (s .bytes) maxText) (leb (s .tokens) maxTokens) .0 e .0) in
-      let c = bytes-are in
-      omega (arith, l, c)
+  in-full (all-put o e) k =
+      let c = ap (λ (x : Place). x .bytes) e ∙ passed-is 0 (text ps) (omega arith) in
+      (omega (arith, c, few s k), o)
+  in-full (left-over f g) k = absurd (true≢false (sym k ∙ f))
 
 -- ---- a document that has passed
 
-module _ {list doc work₁ work₂ names : List ℕ} {n k m : ℕ} (b : BothPassed list doc work₁ work₂ names n k m) where
+module _ {list doc work₁ work₂ names : List ℕ} {n k m : ℕ} (b : TextsNamed list doc work₁ work₂ names n k m) where
   abbrev headers : List Header
-  headers = b .first .headers
+  headers = b .passed .both .first .headers
 
   abbrev tree : Document
-  tree = b .second .document
+  tree = b .passed .both .second .document
 
   faultless : documentFaults headers tree ≡ []
-  faultless = first-none (documentFaults headers tree) (document-clean headers doc tree (b .second .stages))
+  faultless = first-none (documentFaults headers tree) (document-clean headers doc tree (b .passed .both .second .stages))
 
   pub plan : (p : Plan) × (planOf headers tree ≡ some p)
-  plan = plan-exists headers tree (first-none (listFaults headers) (list-clean list headers (b .first .stages))) faultless
+  plan = plan-exists headers tree (first-none (listFaults headers) (list-clean list headers (b .passed .both .first .stages))) faultless
 
   -- the pieces of its canonical text, and the stages that are left
   abbrev pub laid : List Piece
@@ -130,53 +114,84 @@ module _ {list doc work₁ work₂ names : List ℕ} {n k m : ℕ} (b : BothPass
   left-are : (out : ℕ) → textStages list doc out ≡ writingStages laid out
   unfolding textStages layoutOf
   left-are out =
-      ap (λ (s : Stage Checked). andThen s (writes list doc out)) (both-under list doc (b .first .stages) (b .second .stages))
+      ap (λ (s : Stage Checked). andThen s (writes list doc out)) (both-under list doc (b .passed .both .first .stages) (b .passed .both .second .stages))
       ∙ ap (λ (o : Option Plan). writingStages (laidOut headers o) out) (plan .1)
 
   -- what putting it asks and ensures
   abbrev directory : List ℕ
   directory = take (k - 0) names
 
-  pub put-asked : Holds list work₁ n × (Ranged list work₁ n × (NamePlaces n directory × (Holds doc work₂ m × Ranged doc work₂ m)))
-  put-asked = let l = b .first in let d = b .second in (l .table, (ranged list work₁ n (l .lexed), (part-places l, (d .table, ranged doc work₂ m (d .lexed)))))
+  part-is : take k names ≡ directory
+  part-is = let e : k ≡ k - 0 = omega arith in ap (λ (j : ℕ). take j names) e
+
+  pub put-asked : (classes : List ℕ) → classes ≡ classTable
+      → Holds list work₁ n × (Ranged classes list work₁ n × (NamePlaces n directory × (Holds doc work₂ m × (Ranged classes doc work₂ m × (m ≤ maxTokens)))))
+  put-asked classes k =
+      let l = b .passed .both .first in
+      let d = b .passed .both .second in (
+        l .table,
+        (
+          ranged classes list work₁ n k (l .table) (l .lexed),
+          (
+            subst (NamePlaces n) part-is (b .places),
+            (d .table, (ranged classes doc work₂ m k (d .table) (d .lexed), d .small)),
+          ),
+        ),
+      )
 
   pub put-ensured : {out out' : List ℕ} {s : Place}
-      → ((hs : List Header) (d : Document) (p : Plan) → Heads list work₁ n maxBrackets directory hs → parseDocument (toks doc work₂ m 0) ≡ ok d [] → documentFaults hs d ≡ [] → planOf hs d ≡ some p → PutsAll (documentPieces hs p) out out' s)
+      → ((hs : List Header) (d : Document) (p : Plan) → Heads list work₁ n maxBrackets directory hs → parseDocument (toks doc work₂ m 0) ≡ ok d []
+      → documentFaults hs d ≡ [] → planOf hs d ≡ some p → PutsAll (documentPieces hs p) out out' s)
       → PutsAll laid out out' s
-  put-ensured f = f headers tree (plan .0) (part-heads (b .first)) (b .second .parsed) faultless (plan .1)
+  put-ensured f =
+      f headers tree (plan .0) (subst (λ (x : List ℕ). Heads list work₁ n maxBrackets x headers) part-is (b .heads)) (b .passed .both .second .parsed) faultless
+      (plan .1)
 
-  -- it was measured by putting it into no bytes
-  module _ (out : List ℕ) {none : List ℕ} {s : Place} (w : PutsAll laid [] none s) where
-    unmoved : none ++ out ≡ out
-    unmoved = ap (λ (xs : List ℕ). xs ++ out) (w .bytes ∙ stored-none 0 (text laid))
-
-    same-length : length (none ++ out) ≡ length out
-    same-length = ap length unmoved
-
-    pub too-large : {r : Answer} → keepsLimits s ≡ false → r ≡ answer 25 0 0 0 → Wrote (textStages list doc (length out)) out (none ++ out) r
+  -- it was put into a buffer
+  module _ (out : List ℕ) {buffer buffer' : List ℕ} {s : Place} (w : PutsAll laid buffer buffer' s) where
+    pub too-large : {r : Answer} → keepsLimits s ≡ false → r ≡ answer Code.overLimits 0 0 0 → Wrote (textStages list doc (length out)) out out r
     unfolding writingStages
-    too-large f a = let e = sym (limits-are w) ∙ f in wrote-stopped (left-are (length out) ∙ rw e) a unmoved
+    too-large f a = let e = sym (limits-are w) ∙ f in wrote-stopped (left-are (length out) ∙ rw e) a refl
 
-    pub too-short : {r : Answer} → keepsLimits s ≡ true → length (none ++ out) < s .bytes → r ≡ answer 26 0 0 (s .bytes)
-        → Wrote (textStages list doc (length out)) out (none ++ out) r
-    unfolding writingStages
-    too-short f l a =
-        let e = sym (limits-are w) ∙ f in
-        let c = all-counted w f in
-        let h = lt-leb (length (text laid)) (length out) (omega (arith, l, same-length, c)) in
-        wrote-stopped (left-are (length out) ∙ rw (e, h)) (a ∙ ap (λ (x : ℕ). answer 26 0 0 x) c) unmoved
+    module _ (f : keepsLimits s ≡ true) where
+      kept-limits : (leb (length (text laid)) maxText && leb (length laid) maxTokens) ≡ true
+      kept-limits = sym (limits-are w) ∙ f
 
-    pub all-written : {r : Answer} {out' : List ℕ} {s' : Place} → keepsLimits s ≡ true → s .bytes ≤ length (none ++ out)
-        → PutsAll laid (none ++ out) out' s' → r ≡ answer 0 0 0 (s .bytes)
-        → Wrote (textStages list doc (length out)) out out' r
-    unfolding writingStages outputAfter
-    all-written f l v a =
-        let e = sym (limits-are w) ∙ f in
-        let c = all-counted w f in
-        let g : length (text laid) ≤ length out = omega (arith, l, same-length, c) in
-        let h = le-leb (length (text laid)) (length out) g in
-        wrote-as {t = pass (text laid)} (left-are (length out) ∙ rw (e, h)) (a ∙ ap (λ (x : ℕ). answer 0 0 0 x) c)
-        (v .bytes ∙ ap (λ (xs : List ℕ). stored xs 0 (text laid)) unmoved ∙ stored-is out 0 (text laid) (omega (arith, g)) (omega (arith, c, bytes-few w)))
+      counted : s .bytes ≡ length (text laid)
+      counted = in-full w f .0
+
+      pub too-short : {r : Answer} → length out < s .bytes → r ≡ answer Code.shortOutput 0 0 (s .bytes) → Wrote (textStages list doc (length out)) out out r
+      unfolding writingStages
+      too-short l a =
+          let e = kept-limits in
+          let h = lt-leb (length (text laid)) (length out) (omega (arith, l, counted)) in
+          wrote-stopped (left-are (length out) ∙ rw (e, h)) (a ∙ ap (λ (x : ℕ). answer Code.shortOutput 0 0 x) counted) refl
+
+      -- its bytes were stored in the output
+      written-out : {r : Answer} {out' : List ℕ} → s .bytes ≤ length out → out' ≡ stored out 0 (text laid) → r ≡ answer L.accepted 0 0 (s .bytes)
+          → Wrote (textStages list doc (length out)) out out' r
+      unfolding writingStages outputAfter
+      written-out l o a =
+          let e = kept-limits in
+          let g : length (text laid) ≤ length out = omega (arith, l, counted) in
+          let h = le-leb (length (text laid)) (length out) g in
+          wrote-as {t = pass (text laid)} (left-are (length out) ∙ rw (e, h)) (a ∙ ap (λ (x : ℕ). answer L.accepted 0 0 x) counted)
+          (o ∙ stored-is out 0 (text laid) (omega (arith, g)) (omega (arith, counted, few s f)))
+
+      -- by putting it once more
+      pub put-again : {r : Answer} {out' : List ℕ} {s' : Place} → s .bytes ≤ length out → PutsAll laid out out' s' → r ≡ answer L.accepted 0 0 (s .bytes)
+          → Wrote (textStages list doc (length out)) out out' r
+      put-again l v a = written-out l (in-full v (limits-are v ∙ kept-limits) .1) a
+
+      -- by copying the front of the buffer
+      pub copied : {r : Answer} {out' : List ℕ} → s .bytes ≤ length out → s .bytes ≤ length buffer' → out' ≡ stored out 0 (take (s .bytes - 0) buffer')
+          → r ≡ answer L.accepted 0 0 (s .bytes) → Wrote (textStages list doc (length out)) out out' r
+      copied l k o a =
+          let t = in-full w f .1 in
+          let fits : length (text laid) ≤ length buffer = omega (arith, k, counted, ap length t ∙ stored-length buffer 0 (text laid)) in
+          let all : s .bytes - 0 ≡ length (text laid) = omega (arith, counted) in
+          let front = ap₂ (λ (x : ℕ) (y : List ℕ). take x y) all t ∙ stored-front buffer (text laid) fits (omega (arith, counted, few s f)) in
+          written-out l (o ∙ ap (stored out 0) front) a
 
 -- ---- the guards
 
@@ -203,7 +218,8 @@ module _ (list doc work₁ work₂ out : List ℕ) where
   unfolding written
   refused-room e a = refused (guard-room list doc (textStages list doc (length out)) e) refl a
 
-  pub refused-list : {r : Answer} → canonServes room ≡ true → leb (length list) maxText ≡ false → r ≡ answer L.longText 1 maxText 0 → Ensured r out work₁ work₂
+  pub refused-list : {r : Answer} → canonServes room ≡ true → leb (length list) maxText ≡ false → r ≡ answer L.longText 1 maxText 0
+      → Ensured r out work₁ work₂
   unfolding written
   refused-list e f a = refused (guard-list list doc (textStages list doc (length out)) e f) refl a
 

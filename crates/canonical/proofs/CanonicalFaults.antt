@@ -84,7 +84,8 @@ call-fed ks ls c t e a =
     go true = faults-keep 23 (strangers ks (assigned c)) (strangers ls (assigned t)) (keeps not)
     go false = faults-keep 23 (those (isAmong ks) (assigned c)) (those (isAmong ls) (assigned t)) (keeps (λ b. b))
 
-calls-fed : (ks ls : List Token) {cs ts : List Call} → spellings ks ≡ spellings ls → Alike cs ts → EmptyToo (flatMap (misfedBy ks) cs) (flatMap (misfedBy ls) ts)
+calls-fed : (ks ls : List Token) {cs ts : List Call} → spellings ks ≡ spellings ls → Alike cs ts
+    → EmptyToo (flatMap (misfedBy ks) cs) (flatMap (misfedBy ls) ts)
 unfolding flatMap
 calls-fed ks ls e none-alike h = h
 calls-fed ks ls e (more-alike {c} {t} {cs} a l) h = both-keep (misfedBy ks c) (flatMap (misfedBy ks) cs) (call-fed ks ls c t e a) (calls-fed ks ls e l) h
@@ -130,7 +131,9 @@ canon-clean list hs d t p l h e k =
     row-keeps
     (a-part (λ z. version-clean k)
     (a-part (counts-kept d t a)
-    (a-part (repeats-kept 13 (d .inputs ++ d .outputs) (t .inputs ++ t .outputs) (append-same (d .inputs) (d .outputs) (t .inputs) (t .outputs) (a .inputs) (a .outputs)))
+    (a-part
+    (repeats-kept 13 (d .inputs ++ d .outputs) (t .inputs ++ t .outputs)
+    (append-same (d .inputs) (d .outputs) (t .inputs) (t .outputs) (a .inputs) (a .outputs)))
     (a-part (λ z. calls-clean (undeclared hs) (λ c u q. call-declared q) (k .calls))
     (a-part (λ z. calls-clean (argumentFaults hs) (λ c u q. call-bound q) (k .calls))
     (a-part (λ z. calls-clean (unmatched hs) (λ c u q. call-matched q) (k .calls))

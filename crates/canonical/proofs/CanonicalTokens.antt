@@ -23,13 +23,18 @@ use Rattle.lists.specs.Reading.{Val, Vals}
 use Rattle.canonical.specs.Plan.{Plan, PlanCall}
 use Rattle.canonical.specs.Spelling.{decimal, spellNumber, holdsSingle, quoteFor, spellString, spellTruth}
 use Rattle.canonical.specs.Pieces.{Piece, text, tokensAt}
-use Rattle.canonical.specs.Layout.{piece, spaced, namePiece, mark, pieces, items, moreItems, leftPieces, moreNamesPieces, namesPieces, argumentPieces, moreArgumentsPieces, argumentsPieces, callPieces, callsPieces, documentPieces, canonical}
-use Rattle.canonical.proofs.Fit.{All, none, more, IsWord, IsName, IsNumber, IsText, Fits, fit-name, fit-number, fit-scalar, fit-extent, fit-string, fit-logical, fit-truth, fit-array, fit-tuple, FitsAll, all-none, all-more, FitsEach, each-none, each-more, LeftFits, alone, several, FitsParams, no-param, a-param, CallFits, CallsFit, one-call, more-calls, NamesFit, one-name, more-names, PlanFits}
+use Rattle.canonical.specs.Layout.{piece, spaced, namePiece, mark, pieces, items, moreItems, leftPieces, moreNamesPieces, namesPieces, argumentPieces}
+use Rattle.canonical.specs.Layout.{moreArgumentsPieces, argumentsPieces, callPieces, callsPieces, documentPieces, canonical}
+use Rattle.canonical.proofs.Fit.{All, none, more, IsWord, IsName, IsNumber, IsText, Fits, fit-name, fit-number, fit-scalar, fit-extent, fit-string}
+use Rattle.canonical.proofs.Fit.{fit-logical, fit-truth, fit-array, fit-tuple, FitsAll, all-none, all-more, FitsEach, each-none, each-more, LeftFits}
+use Rattle.canonical.proofs.Fit.{alone, several, FitsParams, no-param, a-param, CallFits, CallsFit, one-call, more-calls, NamesFit, one-name}
+use Rattle.canonical.proofs.Fit.{more-names, PlanFits}
 use Rattle.canonical.proofs.Found.{params-found}
 use Rattle.canonical.proofs.Runs.{next, span-all, differs}
 use Rattle.canonical.proofs.Digits.{are-digits}
 use Rattle.canonical.proofs.Numbers.{Apart}
-use Rattle.canonical.proofs.Lexing.{isSpace, Lexes, Chain, nil, link, lex-again, lex-too-many, Begins, begins, digits-begin, word-begins, number-begins, word-lexes, whole-lexes, number-lexes, string-lexes, mark-lexes, equals-lexes, arrow-lexes, version-lexes}
+use Rattle.canonical.proofs.Lexing.{isSpace, Lexes, Chain, nil, link, lex-again, lex-too-many, Begins, begins, digits-begin, word-begins, number-begins}
+use Rattle.canonical.proofs.Lexing.{word-lexes, whole-lexes, number-lexes, string-lexes, mark-lexes, equals-lexes, arrow-lexes, version-lexes}
 
 -- pieces that are lexed back, also right after a word or a number
 record AfterWord (r : List Piece) : Type 0 where
@@ -105,7 +110,8 @@ quotes : (s : List ℕ) → (classOf (quoteFor s) ≡ Class.quote) × (isContent
 unfolding quoteFor classOf
 quotes s = go (holdsSingle s)
   where
-    go : (b : Bool) → (classOf (cond b (byte "\"") (byte "'")) ≡ Class.quote) × (isContent (cond b (byte "\"") (byte "'")) (cond b (byte "\"") (byte "'")) ≡ false)
+    go : (b : Bool)
+        → (classOf (cond b (byte "\"") (byte "'")) ≡ Class.quote) × (isContent (cond b (byte "\"") (byte "'")) (cond b (byte "\"") (byte "'")) ≡ false)
     go true = (refl, refl)
     go false = (refl, refl)
 
@@ -204,13 +210,16 @@ document-chain f =
     let results = link (arrow-lexes _) (plain (byte "(") refl refl none outputs .chain) in
     let inputs = name-list (f .inputs) (plain (byte ")") refl refl none results) in
     let graph = a-name (f .graph) (plain (byte "(") refl refl none inputs) in
-    a-keyword (ascii "version") (is-word (ascii "version") refl refl refl) refl (link (version-lexes _) (a-keyword (ascii "graph") (is-word (ascii "graph") refl refl refl) refl (graph .chain)))
+    a-keyword (ascii "version") (is-word (ascii "version") refl refl refl) refl
+    (link (version-lexes _) (a-keyword (ascii "graph") (is-word (ascii "graph") refl refl refl) refl (graph .chain)))
 
-pub lex-canonical : (hs : List Header) (p : Plan) → PlanFits hs p → length (documentPieces hs p) ≤ maxTokens → lex (canonical hs p) ≡ accepted (tokensAt 0 (documentPieces hs p))
+pub lex-canonical : (hs : List Header) (p : Plan) → PlanFits hs p → length (documentPieces hs p) ≤ maxTokens
+    → lex (canonical hs p) ≡ accepted (tokensAt 0 (documentPieces hs p))
 unfolding canonical
 lex-canonical hs p f h = lex-again 0 0 (document-chain f) (omega arith)
 
 -- where there are more pieces than a text may have tokens, it is refused with code 8
-pub lex-over : (hs : List Header) (p : Plan) → PlanFits hs p → maxTokens < length (documentPieces hs p) → (q : ℕ) × (lex (canonical hs p) ≡ refused Code.tooMany q)
+pub lex-over : (hs : List Header) (p : Plan) → PlanFits hs p → maxTokens < length (documentPieces hs p)
+    → (q : ℕ) × (lex (canonical hs p) ≡ refused Code.tooMany q)
 unfolding canonical
 lex-over hs p f h = lex-too-many 0 0 (document-chain f) (omega arith) (omega (arith, h))

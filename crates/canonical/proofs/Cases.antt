@@ -62,7 +62,11 @@ tokensOf (accepted ts) = ts
 tokensOf (refused c p) = []
 
 checks : String → String → Answer → Case
-checks list doc r = record { gives = numbers (checkAnswer (ascii list) (ascii doc) (record { work₁ = workWords; work₂ = workWords; calls = callWords; wires = wireWords })); is = numbers r }
+checks list doc r =
+    record {
+      gives = numbers (checkAnswer (ascii list) (ascii doc) (record { work₁ = workWords; work₂ = workWords; calls = callWords; wires = wireWords }));
+      is = numbers r;
+    }
 
 outcome : Lexed → Outcome
 outcome (accepted ts) = kinds (map (λ (t : Token). t .kind) ts)
@@ -80,7 +84,8 @@ fitsParsed (ok v us) (bad c ws) = false
 fitsParsed (bad c us) p = false
 
 suits : String → String → Bool → Case
-suits v u b = record { gives = fits (fitsParsed (P.value literals maxBrackets (tokensOf (lex (ascii v)))) (P.type maxBrackets (tokensOf (lex (ascii u))))); is = fits b }
+suits v u b =
+    record { gives = fits (fitsParsed (P.value literals maxBrackets (tokensOf (lex (ascii v)))) (P.type maxBrackets (tokensOf (lex (ascii u))))); is = fits b }
 
 bytesOf : Stage (List ℕ) → Outcome
 bytesOf (pass w) = bytes w
@@ -88,7 +93,8 @@ bytesOf (stop r) = numbers r
 
 -- lent an output of so many bytes
 writes : String → String → ℕ → String → Case
-writes list doc n text = record { gives = bytesOf (written (ascii list) (ascii doc) (record { work₁ = workWords; work₂ = workWords; out = n })); is = bytes (ascii text) }
+writes list doc n text =
+    record { gives = bytesOf (written (ascii list) (ascii doc) (record { work₁ = workWords; work₂ = workWords; out = n })); is = bytes (ascii text) }
 
 pub cases : List Case
 cases =

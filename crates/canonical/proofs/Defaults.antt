@@ -8,7 +8,8 @@ use Rattle.lexis.specs.Lexer.{Token}
 use Rattle.lexis.specs.Words.{sameBytes}
 use Rattle.syntax.specs.Tree.{Value, Values, Param, Header}
 use Rattle.lexis.specs.Symbol.{rightRound}
-use Rattle.syntax.specs.Grammar.{Separated, last, next, literals, Spells, a-name, a-literal, an-empty-array, an-array, a-tuple, Items, last-item, next-item, IsDefault, no-default, a-default, IsParam, a-param, IsHeader, a-header, IsList, no-header, a-header-more}
+use Rattle.syntax.specs.Grammar.{Separated, last, next, literals, Spells, a-name, a-literal, an-empty-array, an-array, a-tuple, Items, last-item, next-item}
+use Rattle.syntax.specs.Grammar.{IsDefault, no-default, a-default, IsParam, a-param, IsHeader, a-header, IsList, no-header, a-header-more}
 use Rattle.lists.specs.Names.{namesIn, namesOf}
 use Rattle.lists.specs.Found.{operationOf, find}
 use Rattle.canonical.proofs.Planned.{nothing-some}

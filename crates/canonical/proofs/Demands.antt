@@ -234,7 +234,8 @@ module _ (list doc : List ℕ) (hs : List Header) (p : Plan) (a : AcceptedList l
   canon-over-output l w₁ w₂ k o = Canonical.over-the-output list doc hs p a h l w₁ w₂ k o
 
   -- the pieces that 25 counts are the tokens of the canonical text: as many, if they are no more than a text may have, else it has too many
-  pub canonical-tokens : (length (documentPieces hs p) ≤ maxTokens → (ts : List Token) × ((lex (canonical hs p) ≡ accepted ts) × (length ts ≡ length (documentPieces hs p))))
+  pub canonical-tokens :
+      (length (documentPieces hs p) ≤ maxTokens → (ts : List Token) × ((lex (canonical hs p) ≡ accepted ts) × (length ts ≡ length (documentPieces hs p))))
       × (maxTokens < length (documentPieces hs p) → (q : ℕ) × (lex (canonical hs p) ≡ refused Code.tooMany q))
   canonical-tokens = Answers.canonical-tokens list doc hs p a h
 

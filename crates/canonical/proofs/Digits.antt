@@ -25,7 +25,8 @@ module _ (P : ℕ → List ℕ → Type 0) (one : (n : ℕ) → n < 10 → P n (
   by-fuel zero n h = one n (omega arith)
   by-fuel (suc fuel) n h = go (ltb n 10) refl (by-fuel fuel (n / 10))
     where
-      go : (b : Bool) → ltb n 10 ≡ b → (n / 10 ≤ fuel → P (n / 10) (decimalBy fuel (n / 10))) → P n (cond b ((byte "0" + n) ∷ []) (decimalBy fuel (n / 10) ++ ((byte "0" + n % 10) ∷ [])))
+      go : (b : Bool) → ltb n 10 ≡ b → (n / 10 ≤ fuel → P (n / 10) (decimalBy fuel (n / 10)))
+          → P n (cond b ((byte "0" + n) ∷ []) (decimalBy fuel (n / 10) ++ ((byte "0" + n % 10) ∷ [])))
       go true e ih = one n (ltb-true n 10 e)
       go false e ih = let l = ltb-false n 10 e in last n (decimalBy fuel (n / 10)) l (ih (omega arith))
 
@@ -47,13 +48,21 @@ all-digits (some-digits {c} h a) = more {c = c} (rw h) a
 class-digit : (n : ℕ) → n < 10 → classOf (byte "0" + n) ≡ Class.digit
 unfolding classOf
 class-digit n h =
-    rw (lt-leb (byte "0" + n) 13 (omega arith), and-false, ne-eqb (byte "0" + n) 32 (λ e. omega arith), le-leb (byte "0") (byte "0" + n) (omega arith), le-leb (byte "0" + n) (byte "9") (omega arith))
+    rw (
+      lt-leb (byte "0" + n) 13 (omega arith),
+      and-false,
+      ne-eqb (byte "0" + n) 32 (λ e. omega arith),
+      le-leb (byte "0") (byte "0" + n) (omega arith),
+      le-leb (byte "0" + n) (byte "9") (omega arith),
+    )
 
 snoc-digits : {s : List ℕ} (d : ℕ) → IsDigits s → classOf d ≡ Class.digit → IsDigits (s ++ (d ∷ []))
 snoc-digits d (some-digits h a) k = some-digits h (all-append isDigit a (more {c = d} (rw k) none))
 
 pub are-digits : (n : ℕ) → IsDigits (decimal n)
-are-digits = by-digits (λ n s. IsDigits s) (λ n h. some-digits (class-digit n h) none) (λ n s h ih. snoc-digits (byte "0" + n % 10) ih (class-digit (n % 10) (omega arith)))
+are-digits =
+    by-digits (λ n s. IsDigits s) (λ n h. some-digits (class-digit n h) none)
+    (λ n s h ih. snoc-digits (byte "0" + n % 10) ih (class-digit (n % 10) (omega arith)))
 
 -- a number below ten to the k + 1 has at most k + 1 digits
 abbrev Few : ℕ → List ℕ → Type 0

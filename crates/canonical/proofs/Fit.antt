@@ -95,7 +95,8 @@ pub data LeftFits (b : ℕ) : Ty → Val → Type 0 where
 -- a value for each parameter
 pub data FitsParams (b : ℕ) : List Param → List Val → Type 0 where
   no-param : FitsParams b [] []
-  a-param : {p : Param} {ps : List Param} {v : Val} {vs : List Val} → IsName (p .name .bytes) → Fits both b (p .ty) v → FitsParams b ps vs → FitsParams b (p ∷ ps) (v ∷ vs)
+  a-param : {p : Param} {ps : List Param} {v : Val} {vs : List Val} → IsName (p .name .bytes) → Fits both b (p .ty) v → FitsParams b ps vs
+      → FitsParams b (p ∷ ps) (v ∷ vs)
 
 -- a call of a declared operation, which has parameters, of different names
 pub record CallFits (hs : List Header) (c : PlanCall) : Type 0 where

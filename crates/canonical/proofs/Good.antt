@@ -14,17 +14,18 @@ use Rattle.lexis.specs.Sizes.{maxName, maxNumber, maxString, maxTokens}
 use Rattle.lexis.specs.Ascii.{ascii}
 use Rattle.lexis.specs.Class as Class
 use Rattle.lexis.specs.Kind as Kind
-use Rattle.lexis.specs.Bytes.{classOf, within, among, isNamePart, isContent, spanLen, gapLen}
+use Rattle.lexis.specs.Bytes.{classOf, within, among, isDigit, isNamePart, isContent, spanLen, gapLen}
 use Rattle.lexis.specs.Words.{Word, words, sameBytes, kindIn, kindOfWord}
 use Rattle.lexis.specs.Number.{partsOf, partsLen, sticks, inRange}
 use Rattle.lexis.specs.Lexeme.{numberLexeme, wordLexeme, stringLexeme, isPair, isArrow, markLexeme, lexeme}
 use Rattle.lexis.specs.Lexer.{Token, Lexed, accepted, refused, prepend, admit, lexFrom, lex}
 use Rattle.lexis.specs.declared.token.Lexeme.{Lexeme}
 use Rattle.lexis.specs.declared.token.Lexeme.the-variants as L
-use Rattle.lexis.specs.Symbol.{symOf, symbolOf, terminals, symbolIn, keywordSymbol, aName}
+use Rattle.lexis.specs.Symbol.{symOf, symbolOf, aName}
 use Rattle.lists.specs.Reading.{isNumber, contentOf}
+use Rattle.lists.proofs.Leaves.{keyword-not}
 use Rattle.canonical.specs.Spelling.{holdsSingle, quoteFor}
-use Rattle.canonical.proofs.Runs.{span-all}
+use Rattle.canonical.proofs.Runs.{span-all, span-of-all}
 use Rattle.canonical.proofs.Fit.{All, none, more, IsWord, IsName, IsText}
 
 -- ---- good tokens
@@ -34,10 +35,12 @@ abbrev pub Each : {A : Type 0} → (A → Type 0) → List A → Type 0
 Each P [] = Unit {0}
 Each P (x ∷ xs) = P x × Each P xs
 
--- a token of kind k and bytes w: a name, if the grammar takes it for one; in range, if it is a number; clean between its quotes
+-- a token of kind k and bytes w: a name, if the grammar takes it for one; in range, if it is a number, and digits alone, if it is whole; clean between
+-- its quotes
 pub record Good (k : ℕ) (w : List ℕ) : Type 0 where
   pub name : symbolOf k w ≡ aName → IsName w
   pub number : isNumber k ≡ true → (inRange w (partsOf w) ≡ true) × (length w ≤ maxNumber)
+  pub whole : k ≡ Kind.whole → spanLen isDigit w ≡ length w
   pub text : k ≡ Kind.string → IsText (contentOf w)
 
 pub good-name : (t : Token) → Good (t .kind) (t .bytes) → symOf t ≡ aName → IsName (t .bytes)
@@ -84,23 +87,26 @@ word-kind w =
     let k = a-keyword in
     kind-in words w (a-truth, (a-truth, (k, (k, (k, (k, (k, (k, (k, (k, (k, (k, (k, (k, (k, (k, (k, tt)))))))))))))))))
 
--- no keyword is taken for a name
-pub keyword-not : (w : List ℕ) → keywordSymbol w ≡ aName → ⊥
-unfolding terminals symbolIn
-keyword-not w =
-    neither aName (sameBytes w (ascii "version")) _ _ (λ _. omega arith)
-    (neither aName (sameBytes w (ascii "graph")) _ _ (λ _. omega arith)
-    (neither aName (sameBytes w (ascii "fragment")) _ _ (λ _. omega arith)
-    (neither aName (sameBytes w (ascii "tensor")) _ _ (λ _. omega arith)
-    (neither aName (sameBytes w (ascii "extent")) _ _ (λ _. omega arith)
-    (neither aName (sameBytes w (ascii "scalar")) _ _ (λ _. omega arith)
-    (neither aName (sameBytes w (ascii "logical")) _ _ (λ _. omega arith) (neither aName (sameBytes w (ascii "string")) _ _ (λ _. omega arith) (omega arith))))))))
-
 word-token : {k : ℕ} {w : List ℕ} → IsWord w → kindOfWord w ≡ k → WordKind k → Good k w
 unfolding symbolOf
-word-token i e a-name = record { name = λ _. record { word = i; kind = e }; number = λ h. absurd (false≢true h); text = λ h. absurd (omega arith) }
-word-token i e a-truth = record { name = λ h. absurd (omega arith); number = λ h. absurd (false≢true h); text = λ h. absurd (omega arith) }
-word-token {w = w} i e a-keyword = record { name = λ h. absurd (keyword-not w h); number = λ h. absurd (false≢true h); text = λ h. absurd (omega arith) }
+word-token i e a-name = record {
+  name = λ _. record { word = i; kind = e };
+  number = λ h. absurd (false≢true h);
+  whole = λ h. absurd (omega arith);
+  text = λ h. absurd (omega arith);
+}
+word-token i e a-truth = record {
+  name = λ h. absurd (omega arith);
+  number = λ h. absurd (false≢true h);
+  whole = λ h. absurd (omega arith);
+  text = λ h. absurd (omega arith);
+}
+word-token {w = w} i e a-keyword = record {
+  name = λ h. absurd (keyword-not w h);
+  number = λ h. absurd (false≢true h);
+  whole = λ h. absurd (omega arith);
+  text = λ h. absurd (omega arith);
+}
 
 word-fine : (x : ℕ) (s : List ℕ) → classOf x ≡ Class.letter → Fine (x ∷ s) (wordLexeme (x ∷ s))
 unfolding wordLexeme spanLen
@@ -113,10 +119,21 @@ word-fine x s l =
 
 -- ---- numbers
 
-number-token : (b : Bool) (w : List ℕ) → inRange w (partsOf w) ≡ true → length w ≤ maxNumber → Good (cond b Kind.whole Kind.real) w
+number-token : (b : Bool) (w : List ℕ) → inRange w (partsOf w) ≡ true → length w ≤ maxNumber → (b ≡ true → spanLen isDigit w ≡ length w)
+    → Good (cond b Kind.whole Kind.real) w
 unfolding symbolOf
-number-token true w r l = record { name = λ h. absurd (omega arith); number = λ _. (r, l); text = λ h. absurd (omega arith) }
-number-token false w r l = record { name = λ h. absurd (omega arith); number = λ _. (r, l); text = λ h. absurd (omega arith) }
+number-token true w r l d = record { name = λ h. absurd (omega arith); number = λ _. (r, l); whole = λ _. d refl; text = λ h. absurd (omega arith) }
+number-token false w r l d = record {
+  name = λ h. absurd (omega arith);
+  number = λ _. (r, l);
+  whole = λ h. absurd (omega arith);
+  text = λ h. absurd (omega arith);
+}
+
+-- a number that is all whole part is digits alone
+whole-digits : (s : List ℕ) (n : ℕ) → n ≡ partsOf s .whole → spanLen isDigit (take n s) ≡ length (take n s)
+unfolding partsOf
+whole-digits s n e = rw e (span-of-all isDigit (span-all isDigit s))
 
 number-fine : (s : List ℕ) → Fine s (numberLexeme s)
 unfolding numberLexeme
@@ -124,7 +141,30 @@ number-fine s =
     let n = partsLen (partsOf s) in
     by-cases s (sticks (getD s n 0)) _ _ (λ _. tt)
     (λ _. by-cases s (leb n maxNumber) _ _
-    (λ e. by-cases s (inRange (take n s) (partsOf (take n s))) _ _ (λ r. number-token (eqb n (partsOf s .whole)) (take n s) r (simp length-take (omega (arith, leb-true n maxNumber e)))) (λ _. tt)) (λ _. tt))
+    (λ e. by-cases s (inRange (take n s) (partsOf (take n s))) _ _
+    (λ r. number-token (eqb n (partsOf s .whole)) (take n s) r (simp length-take (omega (arith, leb-true n maxNumber e)))
+    (λ w. whole-digits s n (eqb-true n (partsOf s .whole) w)))
+    (λ _. tt)) (λ _. tt))
+
+-- a digit by its number
+pub digit-range : (x : ℕ) → isDigit x ≡ true → (48 ≤ x) × (x ≤ 57)
+unfolding classOf
+digit-range x t = go (leb 48 x) (leb x 57) refl refl
+  where
+    other : (leb 48 x && leb x 57) ≡ false → classOf x ≡ Class.digit → ⊥
+    other e =
+        neither 2 (within 9 13 x || eqb x 32) _ _ (λ _. omega arith)
+        (neither 2 (within 48 57 x) _ _ (λ t. absurd (true≢false (sym t ∙ e)))
+        (neither 2 (within 65 90 x || (within 97 122 x || eqb x 95)) _ _ (λ _. omega arith)
+        (neither 2 (among (ascii "\"'") x) _ _ (λ _. omega arith)
+        (neither 2 (eqb x 35) _ _ (λ _. omega arith)
+        (neither 2 (among (ascii "+-*/^<>!") x) _ _ (λ _. omega arith)
+        (neither 2 (among (ascii "()[]{}:=,;") x) _ _ (λ _. omega arith) (neither 2 (among (ascii "&|") x) _ _ (λ _. omega arith) (omega arith))))))))
+
+    go : (a b : Bool) → leb 48 x ≡ a → leb x 57 ≡ b → (48 ≤ x) × (x ≤ 57)
+    go true true e f = (leb-true 48 x e, leb-true x 57 f)
+    go true false e f = absurd (other (rw (e, f)) (eqb-true (classOf x) Class.digit t))
+    go false b e f = absurd (other (rw e) (eqb-true (classOf x) Class.digit t))
 
 -- ---- strings
 
@@ -203,17 +243,22 @@ string-fine q s l =
         let c : contentOf (q ∷ take (suc n) s) ≡ take m (take n s) = take-take m (suc n) s (omega arith) ∙ sym (take-take m n s low) in
         let clean = clean-for q (take m (take n s)) (quote-is q l) (all-take (isContent q) m a) in
         let t : IsText (contentOf (q ∷ take (suc n) s)) = rw c (record { clean = clean; short = omega (arith, length-take m (take n s)) }) in
-        rw two (record { name = λ h. absurd (omega arith); number = λ h. absurd (false≢true h); text = λ _. t })
+        rw two (record { name = λ h. absurd (omega arith); number = λ h. absurd (false≢true h); whole = λ h. absurd (omega arith); text = λ _. t })
 
 -- ---- marks
 
 mark-token : (w : List ℕ) → (getD w 0 0 ≡ aName → ⊥) → Good Kind.syntactic w
 unfolding symbolOf
-mark-token w n = record { name = λ h. absurd (n h); number = λ h. absurd (false≢true h); text = λ h. absurd (omega arith) }
+mark-token w n = record { name = λ h. absurd (n h); number = λ h. absurd (false≢true h); whole = λ h. absurd (omega arith); text = λ h. absurd (omega arith) }
 
 operator-token : (w : List ℕ) → Good Kind.operator w
 unfolding symbolOf
-operator-token w = record { name = λ h. absurd (omega arith); number = λ h. absurd (false≢true h); text = λ h. absurd (omega arith) }
+operator-token w = record {
+  name = λ h. absurd (omega arith);
+  number = λ h. absurd (false≢true h);
+  whole = λ h. absurd (omega arith);
+  text = λ h. absurd (omega arith);
+}
 
 mark-fine : (x : ℕ) (s : List ℕ) → Fine (x ∷ s) (markLexeme x (getD s 0 0))
 unfolding markLexeme isArrow classOf

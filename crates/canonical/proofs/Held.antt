@@ -58,7 +58,8 @@ module _ {M : Type 1} (𝓤 : URA M) (H : Heap 𝓤) (A : Atoms 𝓤) (W : Given
 
   pub writer-gave-goes : (n : ℕ) → Goes 𝓤 H A W (suc n) (WriterS n) yes (writer-gave n)
   writer-gave-goes n κs w f vs fits =
-      qed W (‵ (finally u8 (w .out .name) (f .0)) ∷ []) ∵ updating ! $ at-once ! $ feqI ! ℕ (length (f .0)) (length (now (w .out))) fits $ move ! (1 ∷ 0 ∷ []) $ fjoin ! $
+      qed W (‵ (finally u8 (w .out .name) (f .0)) ∷ []) ∵ updating ! $ at-once ! $ feqI ! ℕ (length (f .0)) (length (now (w .out))) fits $ move ! (1 ∷ 0 ∷ [])
+      $ fjoin ! $
       nothing ! $ move ! (1 ∷ 0 ∷ []) $ fjoin ! $ done !
 
   module _ (κ : Lft) (x : RefT (List ℕ)) (m : ℕ) (m-fits : m < 2 ^ 64) (s : Val) where
@@ -67,13 +68,17 @@ module _ {M : Type 1} (𝓤 : URA M) (H : Heap 𝓤) (A : Atoms 𝓤) (W : Given
 
     pub writer-made : ent 𝓤 (sem 𝓤 H A (MutSlice (named 0) κ u8 .own x (s ∷ []))) (sem 𝓤 H A (WriterT κ .own (record { out = x; at = m }) (mach s m ∷ [])))
     writer-made =
-        qed W (‵ (MutSlice (named 0) κ u8 .own x (s ∷ [])) ∷ []) ∵ nothing ! $ owned ! usize (Is usize) (uint-makes 𝓤 H A W w64) m _ (refl, m-fits) $ fjoin ! $ move ! (1 ∷ 0 ∷ []) $ fjoin ! $
-        use1 W (‵ (WriterT κ .own (record { out = x; at = m }) (mach s m ∷ []))) (makes 𝓤 H A W (MutSlice (named 0) κ u8 ∷ usize ∷ []) parts (s ∷ [], (vint w64 m ∷ [], tt))) $ done !
+        qed W (‵ (MutSlice (named 0) κ u8 .own x (s ∷ [])) ∷ []) ∵ nothing ! $ owned ! usize (Is usize) (uint-makes 𝓤 H A W w64) m _ (refl, m-fits)
+        $ fjoin ! $ move ! (1 ∷ 0 ∷ []) $ fjoin ! $
+        use1 W (‵ (WriterT κ .own (record { out = x; at = m }) (mach s m ∷ [])))
+        (makes 𝓤 H A W (MutSlice (named 0) κ u8 ∷ usize ∷ []) parts (s ∷ [], (vint w64 m ∷ [], tt))) $ done !
 
   -- a local's type erases the lifetime
   pub writer-typed : (κ : Lft) (h : Writer) (w : Val) → Is (WriterT κ) h (w ∷ []) → Holds (hasTy (T′.mir erased) w) × WT w
   writer-typed κ h w is = LL.lawful (T.the-type (record { mir = erased; lft = κ })) (T′.the-laws (record { mir = erased; lft = κ })) 𝓤 H A W .typed h _ is .0
 
-pub says-both : {M : Type 1} {𝓤 : URA M} {H : Heap 𝓤} {A : Atoms 𝓤} {K : Type 0} {W : Given 𝓤 H A} {Γ : List (Item 𝓤)} → K → {φ ψ : Type 0} {P : SProp 𝓤} → φ × ψ
+pub says-both : {M : Type 1} {𝓤 : URA M} {H : Heap 𝓤} {A : Atoms 𝓤} {K : Type 0} {W : Given 𝓤 H A} {Γ : List (Item 𝓤)} → K → {φ ψ : Type 0} {P : SProp 𝓤}
+    → φ × ψ
     → Step K W Γ (prop P) Γ (prop (sep 𝓤 P (sep 𝓤 (fact 𝓤 φ) (fact 𝓤 ψ))))
-says-both {𝓤 = 𝓤} t {φ} {ψ} {P} e = step (λ s. suffices t (sep 𝓤 (sep 𝓤 P (fact 𝓤 φ)) (fact 𝓤 ψ)) (assoc∗ 𝓤 P (fact 𝓤 φ) (fact 𝓤 ψ)) $ says t (e .1) $ says t (e .0) $ s)
+says-both {𝓤 = 𝓤} t {φ} {ψ} {P} e =
+    step (λ s. suffices t (sep 𝓤 (sep 𝓤 P (fact 𝓤 φ)) (fact 𝓤 ψ)) (assoc∗ 𝓤 P (fact 𝓤 φ) (fact 𝓤 ψ)) $ says t (e .1) $ says t (e .0) $ s)

@@ -94,7 +94,16 @@ module _ {texts : List (List ℕ)} (Count Length : ℕ → Type 0) where
       place = place-line text ts us (f .before) e (f .split)
 
       begun : (x : Token) × ((ws : List Token) × (us ≡ x ∷ ws)) → StartsToken text (placeOf (length text) us)
-      begun b = rw (b .1 .1) (record { before = f .before; token = b .0; after = b .1 .0; among = e ∙ ap (λ (xs : List Token). lexed xs) (f .split ∙ ap (λ (xs : List Token). f .before ++ xs) (b .1 .1)); start = refl })
+      begun b =
+          rw (b .1 .1)
+          (record {
+            before = f .before;
+            token = b .0;
+            after = b .1 .0;
+            among = e
+                ∙ ap (λ (xs : List Token). lexed xs) (f .split ∙ ap (λ (xs : List Token). f .before ++ xs) (b .1 .1));
+            start = refl;
+          })
 
       go : (c ≡ Syntax.syntax) ⊎ (c ≡ Syntax.bracket) → InTable texts Count Length (answer c n (placeOf (length text) us) 0)
       go (inl q) = rw q (T.syntax t place)
@@ -135,7 +144,8 @@ module _ {texts : List (List ℕ)} (Count Length : ℕ → Type 0) where
 -- the answer of a text by itself, after its guard of code 2
 alone : {A : Type 0} (Count : ℕ → Type 0) (text : List ℕ) (s : Stage A) (n : A → ℕ) → (length text ≤ maxText → (a : A) → s ≡ pass a → Count (n a))
     → ((r : Answer) → s ≡ stop r → InTable (text ∷ []) Count NoText r) → (serves : Bool)
-    → InTable (text ∷ []) Count NoText (stageAnswer (guard serves (answer Bytes.shortRoom 0 0 0) (guard (leb (length text) maxText) (answer Bytes.longText 1 maxText 0) s)) n)
+    → InTable (text ∷ []) Count NoText
+    (stageAnswer (guard serves (answer Bytes.shortRoom 0 0 0) (guard (leb (length text) maxText) (answer Bytes.longText 1 maxText 0) s)) n)
 alone {A} Count text s n h k serves = go serves (leb (length text) maxText) refl
   where
     by : length text ≤ maxText → (x : Stage A) → s ≡ x → InTable (text ∷ []) Count NoText (stageAnswer x n)
@@ -155,7 +165,8 @@ under : {A : Type 0} (Count Length : ℕ → Type 0) (list doc : List ℕ) (s : 
 under Count Length list doc s n h serves = go serves (leb (length list) maxText) (leb (length doc) maxText) refl refl
   where
     go : (a b c : Bool) → leb (length list) maxText ≡ b → leb (length doc) maxText ≡ c
-        → InTable (list ∷ doc ∷ []) Count Length (stageAnswer (guard a (answer Bytes.shortRoom 0 0 0) (guard b (answer Bytes.longText 1 maxText 0) (guard c (answer Bytes.longText 2 maxText 0) s))) n)
+        → InTable (list ∷ doc ∷ []) Count Length
+        (stageAnswer (guard a (answer Bytes.shortRoom 0 0 0) (guard b (answer Bytes.longText 1 maxText 0) (guard c (answer Bytes.longText 2 maxText 0) s))) n)
     go false b c e f = T.short-room
     go true false c e f = T.long-text first-text (leb-false (length list) maxText e)
     go true true false e f = T.long-text second-text (leb-false (length doc) maxText f)
@@ -180,7 +191,8 @@ tokens-in text table = go (leb tableWords (length table)) (leb (length text) max
     by (refused c p) e = bytes-line (TokenCount text) NoText first-text e
 
     go : (a b : Bool) → leb (length text) maxText ≡ b
-        → InTable (text ∷ []) (TokenCount text) NoText (cond a (cond b (answerOf (counted (lex text))) (answer Bytes.longText 1 maxText 0)) (answer Bytes.shortRoom 0 0 0))
+        → InTable (text ∷ []) (TokenCount text) NoText
+        (cond a (cond b (answerOf (counted (lex text))) (answer Bytes.longText 1 maxText 0)) (answer Bytes.shortRoom 0 0 0))
     go false b e = T.short-room
     go true false e = T.long-text first-text (leb-false (length text) maxText e)
     go true true e = by (lex text) refl
@@ -203,20 +215,23 @@ check-in list doc l = under (CallCount list doc) NoText list doc (bothStages lis
 pub canon-in : (list doc : List ℕ) (l : Lent) → InTable (list ∷ doc ∷ []) (CanonicalLength list doc) (CanonicalLength list doc) (numbers list doc l)
 unfolding numbers canonAnswer written textStages canonical writingStages
 canon-in list doc l =
-    under (CanonicalLength list doc) (CanonicalLength list doc) list doc (textStages list doc (length (l .out))) length (λ a b. by a b (bothStages list doc) refl) (canonServes (roomOf l))
+    under (CanonicalLength list doc) (CanonicalLength list doc) list doc (textStages list doc (length (l .out))) length
+    (λ a b. by a b (bothStages list doc) refl) (canonServes (roomOf l))
   where
     C : ℕ → Type 0
     C n = CanonicalLength list doc n
 
     lined : (ps : List Piece) → C (length (text ps)) → (a b c : Bool) → leb (length (text ps)) maxText ≡ a
-        → InTable (list ∷ doc ∷ []) (CanonicalLength list doc) (CanonicalLength list doc) (stageAnswer (guard (a && b) (answer 25 0 0 0) (guard c (answer 26 0 0 (length (text ps))) (pass (text ps)))) length)
+        → InTable (list ∷ doc ∷ []) (CanonicalLength list doc) (CanonicalLength list doc)
+        (stageAnswer (guard (a && b) (answer 25 0 0 0) (guard c (answer 26 0 0 (length (text ps))) (pass (text ps)))) length)
     lined ps h false b c e = T.over-limits h
     lined ps h true false c e = T.over-limits h
     lined ps h true true false e = T.short-output h (leb-true (length (text ps)) maxText e)
     lined ps h true true true e = T.accepted h
 
     by : length list ≤ maxText → length doc ≤ maxText → (s : Stage Checked) → bothStages list doc ≡ s
-        → InTable (list ∷ doc ∷ []) (CanonicalLength list doc) (CanonicalLength list doc) (stageAnswer (andThen s (λ k. writingStages (layoutOf (k .headers) (k .document)) (length (l .out)))) length)
+        → InTable (list ∷ doc ∷ []) (CanonicalLength list doc) (CanonicalLength list doc)
+        (stageAnswer (andThen s (λ k. writingStages (layoutOf (k .headers) (k .document)) (length (l .out)))) length)
     by a b (stop r) e = both-refused (CanonicalLength list doc) (CanonicalLength list doc) list doc r e
     by a b (pass k) e =
         let v = both-passed list doc k a b e in
@@ -224,4 +239,5 @@ canon-in list doc l =
         let h : HasPlan (k .headers) doc (w .0) = record { tree = k .document; accepted = v .1; planned = w .1 } in
         let ps = documentPieces (k .headers) (w .0) in
         rw (layout-is (k .headers) (k .document) (w .0) (w .1))
-        (lined ps (k .headers, (w .0, (v .0, (h, refl)))) (leb (length (text ps)) maxText) (leb (length ps) maxTokens) (leb (length (text ps)) (length (l .out))) refl)
+        (lined ps (k .headers, (w .0, (v .0, (h, refl)))) (leb (length (text ps)) maxText) (leb (length ps) maxTokens)
+        (leb (length (text ps)) (length (l .out))) refl)

@@ -1,11 +1,11 @@
 -- The value of a leaf by its kind and its type word, as the code tells them apart, and that its piece was put.
 use mathlib.Core.Path.{_≡_, refl, sym, ap₂, _∙_}
-use mathlib.Core.Bool.{Bool, true, false, cond, _&&_}
+use mathlib.Core.Bool.{Bool, true, false, cond, _&&_, and-eq-true-iff}
 use mathlib.Core.List.{List}
 use mathlib.Core.Option.{some}
-use Prim.Native.Nat.{ℕ, _≤_}
+use Prim.Native.Nat.{ℕ}
 use native.Mathlib.Omega.{arith}
-use borrow.Author.Tests.{eqb-true, ne-eqb, leb-true}
+use borrow.Author.Tests.{eqb-true, ne-eqb}
 use lib.Dec.{eqb, leb}
 use lib.ListN.{length}
 use Rattle.lexis.specs.Sizes.{maxExtent}
@@ -21,7 +21,6 @@ use Rattle.canonical.specs.declared.place.Place.{Place}
 use Rattle.canonical.specs.Spelling.{decimal, spellNumber, spellString, spellTruth}
 use Rattle.canonical.specs.Layout.{pieces}
 use Rattle.canonical.specs.Writing.{Puts, PutsWord, leafAt}
-use Rattle.canonical.proofs.Spelled.{second}
 
 -- ---- the value
 
@@ -51,9 +50,12 @@ truth-is w is-scalar e = cc
 truth-is w is-logical e = cc
 truth-is w is-string e = cc
 
-extent-is : {at : ℕ} {u : Ty} (k : ℕ) (w : List ℕ) {v : Val} → at ≡ extentWord → IsTypeName at u → literalAt u k w ≡ some v → (valueFrom 0 w ≤ maxExtent) × (v ≡ vExtent (valueFrom 0 w))
+extent-is : {at : ℕ} {u : Ty} (k : ℕ) (w : List ℕ) {v : Val} → at ≡ extentWord → IsTypeName at u → literalAt u k w ≡ some v
+    → (k ≡ Kind.whole) × (v ≡ vExtent (valueFrom 0 w))
 extent-is k w q is-tensor e = absurd (omega arith)
-extent-is k w q is-extent e = let r = where-says (eqb k Kind.whole && leb (valueFrom 0 w) maxExtent) e in (leb-true (valueFrom 0 w) maxExtent (second (eqb k Kind.whole) _ (r .0)), r .1)
+extent-is k w q is-extent e =
+    let r = where-says (eqb k Kind.whole && leb (valueFrom 0 w) maxExtent) e in
+    (eqb-true k Kind.whole (and-eq-true-iff (eqb k Kind.whole) _ .0 (r .0) .0), r .1)
 extent-is k w q is-scalar e = absurd (omega arith)
 extent-is k w q is-logical e = absurd (omega arith)
 extent-is k w q is-string e = absurd (omega arith)
@@ -69,7 +71,8 @@ number-is k w s t q is-string e = absurd (s (eqb-true k Kind.string (where-says 
 -- ---- its piece
 
 -- a leaf t at the type u of the word `at`, of kind k and bytes w
-module _ {at : ℕ} {u : Ty} (k : ℕ) (w : List ℕ) (t : Token) {v : Val} (is : IsTypeName at u) (ek : t .kind ≡ k) (eb : t .bytes ≡ w) (e : leafAt u t ≡ some v) where
+module _ {at : ℕ} {u : Ty} (k : ℕ) (w : List ℕ) (t : Token) {v : Val} (is : IsTypeName at u) (ek : t .kind ≡ k) (eb : t .bytes ≡ w)
+    (e : leafAt u t ≡ some v) where
   here : cond (eqb k Kind.name) (nameAt u w) (literalAt u k w) ≡ some v
   here = sym (ap₂ (λ (j : ℕ) (s : List ℕ). cond (eqb j Kind.name) (nameAt u s) (literalAt u j s)) ek eb) ∙ e
 
@@ -92,7 +95,7 @@ module _ {at : ℕ} {u : Ty} (k : ℕ) (w : List ℕ) (t : Token) {v : Val} (is 
     unfolding pieces
     puts-truth n p = rw (truth-is w is (rw n at here)) (p Kind.truth)
 
-    pub puts-extent : (k ≡ Kind.name → ⊥) → at ≡ extentWord → (valueFrom 0 w ≤ maxExtent → PutsWord (decimal (valueFrom 0 w)) out out' s r) → Puts (pieces v) out out' s r
+    pub puts-extent : (k ≡ Kind.name → ⊥) → at ≡ extentWord → (k ≡ Kind.whole → PutsWord (decimal (valueFrom 0 w)) out out' s r) → Puts (pieces v) out out' s r
     unfolding pieces
     puts-extent n x p = let q = extent-is k w x is (literal n) in rw (q .1) (p (q .0) Kind.whole)
 

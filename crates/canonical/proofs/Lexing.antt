@@ -16,7 +16,8 @@ use Rattle.lexis.specs.Class as Class
 use Rattle.lexis.specs.Kind as Kind
 use Rattle.lexis.specs.Bytes.{classOf, isNamePart, isContent, spanLen, gapFrom, gapLen}
 use Rattle.lexis.specs.Words.{kindOfWord}
-use Rattle.lexis.specs.Number.{Reduced, partsOf, fracLen, expLen, signLen, isE, inRange, reducedOf, writtenOf, minusOf, isSmall, isNear, strip, valueFrom, sticks}
+use Rattle.lexis.specs.Number.{Reduced, partsOf, fracLen, expLen, signLen, isE, inRange, reducedOf, writtenOf, minusOf, isSmall, isNear, strip, valueFrom}
+use Rattle.lexis.specs.Number.{sticks}
 use Rattle.lexis.specs.Lexeme.{numberLexeme, wordLexeme, stringLexeme, markLexeme, isPair, isArrow, takesEqual, lexeme}
 use Rattle.lexis.specs.Lexer.{accepted, refused, prepend, lexFrom}
 use Rattle.lexis.specs.declared.token.Lexeme.{Lexeme}
@@ -62,7 +63,8 @@ lex-space : {s : List ℕ} (r : List ℕ) (n at : ℕ) → All isSpace s → gap
 lex-space {s} r n at a h = lex-gap n at (s ++ r) ∙ rw (space-gap r a h, drop-append-seam)
 
 lex-piece : {p : Piece} {r : List ℕ} (n at : ℕ) → Lexes p r → n < maxTokens → gapLen r ≡ 0
-    → lexFrom 0 n at (p .bytes ++ (p .space ++ r)) ≡ prepend (record { kind = p .kind; start = at; bytes = p .bytes }) (lexFrom 0 (suc n) (at + length (p .bytes) + length (p .space)) r)
+    → lexFrom 0 n at (p .bytes ++ (p .space ++ r)) ≡ prepend (record { kind = p .kind; start = at; bytes = p .bytes })
+    (lexFrom 0 (suc n) (at + length (p .bytes) + length (p .space)) r)
 lex-piece {p} {r} n at l h z =
     lex-token n at (p .bytes ++ (p .space ++ r)) (simp length-append (omega (arith, l .some))) (l .solid)
     ∙ simp (l .found, lt-ltb n maxTokens h, take-append-seam, drop-append-seam, lex-space r (suc n) (at + length (p .bytes)) (l .spaces) z)
@@ -74,12 +76,15 @@ lex-again n at (link {p} l c) h =
     lex-piece n at l (omega arith) (chain-solid c) ∙ simp (lex-again (suc n) (at + length (p .bytes) + length (p .space)) c (omega arith))
 
 -- a chain of more pieces than a text may have tokens is refused with code 8
-pub lex-too-many : {ps : List Piece} (n at : ℕ) → Chain ps → n ≤ maxTokens → maxTokens < n + length ps → (p : ℕ) × (lexFrom 0 n at (text ps) ≡ refused Code.tooMany p)
+pub lex-too-many : {ps : List Piece} (n at : ℕ) → Chain ps → n ≤ maxTokens → maxTokens < n + length ps
+    → (p : ℕ) × (lexFrom 0 n at (text ps) ≡ refused Code.tooMany p)
 unfolding text
 lex-too-many n at nil l h = absurd (omega (arith, l, h))
-lex-too-many n at (link {p} {ps} l c) m h = go (ltb n maxTokens) refl (λ k. lex-too-many (suc n) (at + length (p .bytes) + length (p .space)) c k (omega (arith, h)))
+lex-too-many n at (link {p} {ps} l c) m h =
+    go (ltb n maxTokens) refl (λ k. lex-too-many (suc n) (at + length (p .bytes) + length (p .space)) c k (omega (arith, h)))
   where
-    go : (b : Bool) → ltb n maxTokens ≡ b → (suc n ≤ maxTokens → (q : ℕ) × (lexFrom 0 (suc n) (at + length (p .bytes) + length (p .space)) (text ps) ≡ refused Code.tooMany q))
+    go : (b : Bool) → ltb n maxTokens ≡ b
+        → (suc n ≤ maxTokens → (q : ℕ) × (lexFrom 0 (suc n) (at + length (p .bytes) + length (p .space)) (text ps) ≡ refused Code.tooMany q))
         → (q : ℕ) × (lexFrom 0 n at (p .bytes ++ (p .space ++ text ps)) ≡ refused Code.tooMany q)
     go true e r = let k = ltb-true n maxTokens e in let x = r (omega (arith, k)) in (x .0, lex-piece n at l k (chain-solid c) ∙ rw (x .1))
     go false e r = (at, lex-token n at (p .bytes ++ (p .space ++ text ps)) (simp length-append (omega (arith, l .some))) (l .solid) ∙ simp (l .found, e))
@@ -133,7 +138,8 @@ word-again w r h end =
     let part : isNamePart (next r) ≡ false = rw (end .letter) (end .digit) in
     simp (span-again isNamePart r (h .parts) part, le-leb (length w) maxName (h .short), take-append-seam)
 
-pub word-lexes : {k : ℕ} (w sp r : List ℕ) → IsWord w → kindOfWord w ≡ k → All isSpace sp → Apart (next (sp ++ r)) → Lexes (record { kind = k; bytes = w; space = sp }) r
+pub word-lexes : {k : ℕ} (w sp r : List ℕ) → IsWord w → kindOfWord w ≡ k → All isSpace sp → Apart (next (sp ++ r))
+    → Lexes (record { kind = k; bytes = w; space = sp }) r
 word-lexes w sp r h e a end =
     let first = word-begins w h in
     lexes sp r first refl refl a (by-word (begins-append (sp ++ r) first) (rw (← e) (word-again w (sp ++ r) h end)))
@@ -151,17 +157,20 @@ pub number-lexes : (n : Reduced) (r : List ℕ) → IsNumber n → Apart (next r
 number-lexes n r h end = lexes [] r (number-begins n) refl refl none (by-number (begins-append r (number-begins n)) (number-again r end n h))
 
 -- a string between quotes q
-string-again : (q : ℕ) (s r : List ℕ) → isContent q q ≡ false → All (isContent q) s → length s ≤ maxString → stringLexeme q (s ++ q ∷ r) ≡ Token Kind.string (length s + 2)
+string-again : (q : ℕ) (s r : List ℕ) → isContent q q ≡ false → All (isContent q) s → length s ≤ maxString
+    → stringLexeme q (s ++ q ∷ r) ≡ Token Kind.string (length s + 2)
 unfolding stringLexeme
 string-again q s r h a short = simp (span-again (isContent q) (q ∷ r) a h, getD-append-seam, eq-eqb q q refl, le-leb (length s) maxString short)
 
-pub string-lexes : (q : ℕ) (s r : List ℕ) → classOf q ≡ Class.quote → isContent q q ≡ false → All (isContent q) s → length s ≤ maxString → Lexes (record { kind = Kind.string; bytes = quoted q s; space = [] }) r
+pub string-lexes : (q : ℕ) (s r : List ℕ) → classOf q ≡ Class.quote → isContent q q ≡ false → All (isContent q) s → length s ≤ maxString
+    → Lexes (record { kind = Kind.string; bytes = quoted q s; space = [] }) r
 string-lexes q s r c h a short =
     let len : length s + 2 ≡ length (quoted q s) = rw length-append (omega arith) in
     lexes [] r (begins c) refl refl none (by-string q ((s ++ (q ∷ [])) ++ r) c (rw (append-assoc, ← len) (string-again q s r h a short)))
 
 -- a mark of one byte that begins no longer one
-pub mark-lexes : (a : ℕ) (sp r : List ℕ) → classOf a ≡ Class.syntactic → (a ≡ byte "=" → ⊥) → All isSpace sp → Lexes (record { kind = Kind.syntactic; bytes = a ∷ []; space = sp }) r
+pub mark-lexes : (a : ℕ) (sp r : List ℕ) → classOf a ≡ Class.syntactic → (a ≡ byte "=" → ⊥) → All isSpace sp
+    → Lexes (record { kind = Kind.syntactic; bytes = a ∷ []; space = sp }) r
 mark-lexes a sp r c n s = lexes sp r (begins c) refl refl s (by-mark a (sp ++ r) c (sym (mark-alone Class.syntactic a (next (sp ++ r)) (sym c) refl n)))
 
 pub equals-lexes : (r : List ℕ) → (next r ≡ byte "=" → ⊥) → Lexes (record { kind = Kind.syntactic; bytes = ascii "="; space = [] }) r

@@ -28,7 +28,8 @@ abbrev pub PutsNames : List Token → List ℕ → List ℕ → Place → Place 
 PutsNames ts out out' s s' = (xs us : List Token) → row plain (commas rightRound) (expect aName) ts ≡ ok xs us → Puts (namesPieces (spellings xs)) out out' s s'
 
 -- the names after a comma
-after-comma : {ts us xs : List Token} → Rowed rightRound (expect aName) ts us xs → (r : List Piece) → mark (ascii ",") ∷ namesPieces (spellings xs) r ≡ moreNamesPieces (spellings xs) r
+after-comma : {ts us xs : List Token} → Rowed rightRound (expect aName) ts us xs → (r : List Piece)
+    → mark (ascii ",") ∷ namesPieces (spellings xs) r ≡ moreNamesPieces (spellings xs) r
 unfolding namesPieces moreNamesPieces
 after-comma (last k c) r = refl
 after-comma (next k c m) r = refl
@@ -38,7 +39,8 @@ module _ (text table : List ℕ) (n i : ℕ) where
   name-here : {t : Token} {us : List Token} → expect aName (toks text table n i) ≡ ok t us → First text table n i t us
   name-here {t} {us} k = first-of text table n i t us (expect-ok aName (toks text table n i) k .is)
 
-  row-here : {xs us : List Token} → row plain (commas rightRound) (expect aName) (toks text table n i) ≡ ok xs us → Rowed rightRound (expect aName) (toks text table n i) us xs
+  row-here : {xs us : List Token} → row plain (commas rightRound) (expect aName) (toks text table n i) ≡ ok xs us
+      → Rowed rightRound (expect aName) (toks text table n i) us xs
   row-here k = row-ok rightRound (expect aName) (expect-shrinks aName) (toks text table n i) k
 
   pub names-none : {out out' : List ℕ} {s s' : Place} → n ≤ i → PutsNames (toks text table n i) out out' s s'
@@ -48,7 +50,8 @@ module _ (text table : List ℕ) (n i : ℕ) where
       go (last k c) = absurd (omega (arith, name-here k .inside))
       go (next k c m) = absurd (omega (arith, name-here k .inside))
 
-  module _ {out a : List ℕ} {s p : Place} (put : PutsWord (tokenAt text table i .bytes) out a s p) {c : ℕ} (sees : c ≡ lookahead (toks text table n (i + 1))) where
+  module _ {out a : List ℕ} {s p : Place} (put : PutsWord (tokenAt text table i .bytes) out a s p) {c : ℕ}
+      (sees : c ≡ lookahead (toks text table n (i + 1))) where
     pub names-last : (c ≡ comma → ⊥) → PutsNames (toks text table n i) out a s p
     unfolding namesPieces moreNamesPieces
     names-last w xs us k = go (row-here k)
@@ -57,7 +60,8 @@ module _ (text table : List ℕ) (n i : ℕ) where
         go (last k e) = rw (← (name-here k .here)) (put Kind.name)
         go (next k e m) = absurd (w (sees ∙ ap lookahead (name-here k .rest) ∙ e))
 
-    pub names-next : {b o : List ℕ} {q s' : Place} → c ≡ comma → PutsWord (ascii ",") a b p q → PutsNames (toks text table n (i + 2)) b o q s' → PutsNames (toks text table n i) out o s s'
+    pub names-next : {b o : List ℕ} {q s' : Place} → c ≡ comma → PutsWord (ascii ",") a b p q → PutsNames (toks text table n (i + 2)) b o q s'
+        → PutsNames (toks text table n i) out o s s'
     unfolding namesPieces
     names-next {b} {o} {q} {s'} w then on xs us k = go (row-here k)
       where
@@ -68,5 +72,8 @@ module _ (text table : List ℕ) (n i : ℕ) where
             let j : i + 2 ≡ i + 1 + 1 = omega arith in
             let g : toks text table n (i + 2) ≡ ws = ap (λ (x : ℕ). toks text table n x) j ∙ f .rest in
             let l = ap (row plain (commas rightRound) (expect aName)) g ∙ m in
-            rw (← (name-here k .here)) (puts-same (λ r. ap (λ (x : List Piece). namePiece (tokenAt text table i .bytes) ∷ x) (after-comma (row-ok rightRound (expect aName) (expect-shrinks aName) ws m) r))
+            rw (← (name-here k .here))
+            (puts-same
+            (λ r. ap (λ (x : List Piece). namePiece (tokenAt text table i .bytes) ∷ x)
+            (after-comma (row-ok rightRound (expect aName) (expect-shrinks aName) ws m) r))
             (puts-then (put Kind.name) (puts-then (then Kind.syntactic) (on zs us l))))

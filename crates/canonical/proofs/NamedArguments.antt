@@ -12,7 +12,8 @@ use Rattle.syntax.specs.Tree.{Value, Ty, Param, Arg}
 use Rattle.lists.specs.Names.{those, isAmong, repeatsAfter, repeats}
 use Rattle.lists.specs.Reading.{Val, bind, readAt, isSome, fits}
 use Rattle.lists.specs.ListRules.{paramNames}
-use Rattle.documents.specs.Binding.{isMissing, Slot, leading, labels, byName, orElse, slotsFrom, slots, later, taken, misplacedFrom, misnamed, misfit, misfits, lacked}
+use Rattle.documents.specs.Binding.{isMissing, Slot, leading, labels, byName, orElse, slotsFrom, slots, later, taken, misplacedFrom, misnamed, misfit, misfits}
+use Rattle.documents.specs.Binding.{lacked}
 use Rattle.documents.specs.Wiring.{strangers}
 use Rattle.documents.proofs.Lookups.{among-append}
 use Rattle.documents.proofs.Sought.{same-self, same-sym}
@@ -94,7 +95,8 @@ unfolding those isAmong
 no-stranger seen [] = refl
 no-stranger seen (t ∷ ts) =
     let a : isAmong (seen ++ (t ∷ ts)) t ≡ true = among-append seen (t ∷ ts) t ∙ simp (same-self (t .bytes), or-true) in
-    let r : strangers (seen ++ (t ∷ ts)) ts ≡ [] = ap (λ (ks : List Token). strangers ks ts) (sym (append-assoc seen (t ∷ []) ts)) ∙ no-stranger (seen ++ (t ∷ [])) ts in
+    let r : strangers (seen ++ (t ∷ ts)) ts ≡ [] = ap (λ (ks : List Token). strangers ks ts) (sym (append-assoc seen (t ∷ []) ts))
+    ∙ no-stranger (seen ++ (t ∷ [])) ts in
     simp (a, r)
 
 none-known : (ts : List Token) → those (isAmong []) ts ≡ []

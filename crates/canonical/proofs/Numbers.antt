@@ -16,13 +16,14 @@ use Rattle.lexis.specs.Ascii.{byte}
 use Rattle.lexis.specs.Class as Class
 use Rattle.lexis.specs.Kind as Kind
 use Rattle.lexis.specs.Bytes.{classOf, isDigit, isLetter, spanLen}
-use Rattle.lexis.specs.Number.{Reduced, strip, led, fracLen, signLen, isE, expLen, partsOf, partsLen, sticks, digitsOf, writtenIn, writtenOf, minusOf, exponentOf, reducedOf, isNear, isSmall, inRange}
+use Rattle.lexis.specs.Number.{Reduced, strip, led, fracLen, signLen, isE, expLen, partsOf, partsLen, sticks, digitsOf, writtenIn, writtenOf, minusOf}
+use Rattle.lexis.specs.Number.{exponentOf, reducedOf, isNear, isSmall, inRange}
 use Rattle.lexis.specs.Lexeme.{numberLexeme}
 use Rattle.lexis.specs.declared.number.Parts.{Parts}
 use Rattle.lexis.specs.declared.token.Lexeme.the-variants.{Token}
 use Rattle.lexis.proofs.Signs.{pos-sub}
 use Rattle.lexis.proofs.Reduction.{strip-is}
-use Rattle.lexis.proofs.Ranges.{range-short}
+use Rattle.lexis.proofs.Ranges.{range-plain}
 use Rattle.canonical.specs.Spelling.{decimal, spellExponent, spellNumber}
 use Rattle.canonical.proofs.Fit.{Lowest, nought, odd, IsNumber}
 use Rattle.canonical.proofs.Runs.{next, span-again, next-seam, differs}
@@ -147,7 +148,8 @@ small-bounds : (n : Reduced) → isSmall n ≡ true → (n .mantissa < mantissaE
 unfolding isSmall
 small-bounds n h = go (ltb (n .mantissa) mantissaEnd) refl h
   where
-    go : (b : Bool) → ltb (n .mantissa) mantissaEnd ≡ b → (b && isNear (n .exponent)) ≡ true → (n .mantissa < mantissaEnd) × (natAbs (n .exponent) ≤ maxExponent)
+    go : (b : Bool) → ltb (n .mantissa) mantissaEnd ≡ b → (b && isNear (n .exponent)) ≡ true
+        → (n .mantissa < mantissaEnd) × (natAbs (n .exponent) ≤ maxExponent)
     go true t near = (ltb-true (n .mantissa) mantissaEnd t, near-size (n .exponent) near)
     go false t near = absurd (false≢true near)
 
@@ -159,7 +161,8 @@ exponent-short (negsuc n) h = omega (arith, digits-length 2 (suc n) (omega arith
 range-number : (n : Reduced) → IsNumber n → inRange (spellNumber n) (partsOf (spellNumber n)) ≡ true
 unfolding inRange
 range-number n h =
-    let w : writtenOf (spellNumber n) (partsOf (spellNumber n)) ≡ natAbs (n .exponent) = rw (spelt-alone n, parts-again [] end-apart n) (written-again [] end-apart n) in
+    let w : writtenOf (spellNumber n) (partsOf (spellNumber n)) ≡ natAbs (n .exponent) = rw (spelt-alone n, parts-again [] end-apart n)
+    (written-again [] end-apart n) in
     rw (w, read-number n (h .lowest), le-leb (natAbs (n .exponent)) maxWritten (omega (arith, small-bounds n (h .small))), h .small)
 
 -- ---- the lexer
@@ -176,7 +179,8 @@ unfolding spellNumber
 number-again r end n h =
     let m = n .mantissa in
     let b = small-bounds n (h .small) in
-    let len : length (spellNumber n) ≡ length (decimal m) + suc (length (spellExponent (n .exponent))) = length-append (decimal m) (byte "e" ∷ spellExponent (n .exponent)) in
+    let len : length (spellNumber n) ≡ length (decimal m) + suc (length (spellExponent (n .exponent))) = length-append (decimal m)
+    (byte "e" ∷ spellExponent (n .exponent)) in
     number-of Kind.real (spellNumber n) r (parts n) (rw append-assoc (parts-again r end n)) (omega arith)
     (rw (ne-eqb (length (spellNumber n)) (length (decimal m)) (λ z. omega arith)))
     end (omega (arith, digits-length 17 m (b .0), exponent-short (n .exponent) (b .1))) (range-number n h)
@@ -189,7 +193,11 @@ module _ (r : List ℕ) (end : Apart (next r)) where
 
   no-exponent : expLen r ≡ 0
   unfolding expLen isE classOf
-  no-exponent = rw (differs isLetter (byte "e") (next r) true false refl (end .letter) true≢false, differs isLetter (byte "E") (next r) true false refl (end .letter) true≢false)
+  no-exponent =
+      rw (
+        differs isLetter (byte "e") (next r) true false refl (end .letter) true≢false,
+        differs isLetter (byte "E") (next r) true false refl (end .letter) true≢false,
+      )
 
   whole-parts : (n : ℕ) → partsOf (decimal n ++ r) ≡ record { whole = length (decimal n); frac = 0; exp = 0 }
   unfolding partsOf
@@ -198,7 +206,7 @@ module _ (r : List ℕ) (end : Apart (next r)) where
 range-whole : (n : ℕ) → n < mantissaEnd → inRange (decimal n) (partsOf (decimal n)) ≡ true
 range-whole n h =
     let none : partsOf (decimal n) .exp ≡ 0 = ap (λ (p : Parts). p .exp) (rw append-nil at (whole-parts [] end-apart n)) in
-    sym (range-short (decimal n) (partsOf (decimal n)) refl none (digits-length 17 n h))
+    sym (range-plain (decimal n) (partsOf (decimal n)) refl none (digits-length 17 n h))
 
 pub whole-again : (r : List ℕ) → Apart (next r) → (n : ℕ) → n < mantissaEnd → numberLexeme (decimal n ++ r) ≡ Token Kind.whole (length (decimal n))
 whole-again r end n h =

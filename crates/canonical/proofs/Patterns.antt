@@ -93,7 +93,8 @@ record Closed (close : ℕ) (ts us : List Token) (part : List Piece → List Pie
   is : symOf token ≡ close
   makes : Makes ts (token ∷ us) part
 
-closed-mark : {close : ℕ} {ts us : List Token} {P : List Piece → List Piece} → among (ascii ",[]()") close ≡ true → Closed close ts us P → Makes ts us (λ r. P (mark (close ∷ []) ∷ r))
+closed-mark : {close : ℕ} {ts us : List Token} {P : List Piece → List Piece} → among (ascii ",[]()") close ≡ true → Closed close ts us P
+    → Makes ts us (λ r. P (mark (close ∷ []) ∷ r))
 closed-mark {close} {us = us} m p = makes-then (p .makes) (makes-one (p .token) us (mark-piece (p .token) close (p .is) m))
 
 -- ---- what is read
@@ -119,17 +120,20 @@ name-is t string w e = clash cc
 name-is t (arrayOf u) w e = clash cc
 name-is t (tupleOf us) w e = clash cc
 
-made-is : (v : Value) (k : Vals → Val) (o : Option Vals) (w : Val) → ((ws : Vals) → o ≡ some ws → IsRead v (k ws)) → bind o (λ ws. some (k ws)) ≡ some w → IsRead v w
+made-is : (v : Value) (k : Vals → Val) (o : Option Vals) (w : Val) → ((ws : Vals) → o ≡ some ws → IsRead v (k ws)) → bind o (λ ws. some (k ws)) ≡ some w
+    → IsRead v w
 made-is v k nothing w f e = clash cc
 made-is v k (some ws) w f e = let z : k ws ≡ w = cc in rw (← z) (f ws refl)
 
-more-is : (v : Value) (vs : Values) (o : Option Val) (p : Option Vals) (ws : Vals) → ((w : Val) → o ≡ some w → IsRead v w) → ((xs : Vals) → p ≡ some xs → AreRead vs xs)
+more-is : (v : Value) (vs : Values) (o : Option Val) (p : Option Vals) (ws : Vals) → ((w : Val) → o ≡ some w → IsRead v w)
+    → ((xs : Vals) → p ≡ some xs → AreRead vs xs)
     → bind o (λ w. bind p (λ xs. some (a-val w xs))) ≡ some ws → AreRead (more v vs) ws
 more-is v vs nothing p ws f g e = clash cc
 more-is v vs (some w) nothing ws f g e = clash cc
 more-is v vs (some w) (some xs) ws f g e = let z : a-val w xs ≡ ws = cc in rw (← z) (more-read (f w refl) (g xs refl))
 
-array-is : (t : Token) (vs : Values) (u : Ty) (w : Val) → ((x : Ty) (ws : Vals) → readAll vs x ≡ some ws → AreRead vs ws) → readAt (array t vs) u ≡ some w → IsRead (array t vs) w
+array-is : (t : Token) (vs : Values) (u : Ty) (w : Val) → ((x : Ty) (ws : Vals) → readAll vs x ≡ some ws → AreRead vs ws) → readAt (array t vs) u ≡ some w
+    → IsRead (array t vs) w
 unfolding readAt
 array-is t vs (arrayOf u) w f e = made-is (array t vs) vArray (readAll vs u) w (λ ws h. array-read (f u ws h)) e
 array-is t vs tensor w f e = clash cc
@@ -139,7 +143,8 @@ array-is t vs logical w f e = clash cc
 array-is t vs string w f e = clash cc
 array-is t vs (tupleOf us) w f e = clash cc
 
-tuple-is : (t : Token) (vs : Values) (u : Ty) (w : Val) → ((xs : Tys) (ws : Vals) → readEach vs xs ≡ some ws → AreRead vs ws) → readAt (tuple t vs) u ≡ some w → IsRead (tuple t vs) w
+tuple-is : (t : Token) (vs : Values) (u : Ty) (w : Val) → ((xs : Tys) (ws : Vals) → readEach vs xs ≡ some ws → AreRead vs ws)
+    → readAt (tuple t vs) u ≡ some w → IsRead (tuple t vs) w
 unfolding readAt
 tuple-is t vs (tupleOf us) w f e = made-is (tuple t vs) vTuple (readEach vs us) w (λ ws h. tuple-read (f us ws h)) e
 tuple-is t vs tensor w f e = clash cc
@@ -154,7 +159,8 @@ unfolding readEach
 none-each no-type ws e = let z : no-val ≡ ws = cc in rw (← z) none-read
 none-each (a-type u us) ws e = clash cc
 
-more-each : (v : Value) (vs : Values) (us : Tys) (ws : Vals) → ((u : Ty) (w : Val) → readAt v u ≡ some w → IsRead v w) → ((xs : Tys) (ys : Vals) → readEach vs xs ≡ some ys → AreRead vs ys)
+more-each : (v : Value) (vs : Values) (us : Tys) (ws : Vals) → ((u : Ty) (w : Val) → readAt v u ≡ some w → IsRead v w)
+    → ((xs : Tys) (ys : Vals) → readEach vs xs ≡ some ys → AreRead vs ys)
     → readEach (more v vs) us ≡ some ws → AreRead (more v vs) ws
 unfolding readEach
 more-each v vs no-type ws f g e = clash cc
@@ -179,14 +185,16 @@ mutual
 
 -- ---- patterns
 
-after-comma : {m : Leaves} {close b : ℕ} {ts us : List Token} {vs : Values} {ws : Vals} → Items m close b ts vs us → AreRead vs ws → (r : List Piece) → mark (ascii ",") ∷ items ws r ≡ moreItems ws r
+after-comma : {m : Leaves} {close b : ℕ} {ts us : List Token} {vs : Values} {ws : Vals} → Items m close b ts vs us → AreRead vs ws → (r : List Piece)
+    → mark (ascii ",") ∷ items ws r ≡ moreItems ws r
 unfolding items moreItems
 after-comma (last-item s e) (more-read p q) r = refl
 after-comma (next-item s e i) (more-read p q) r = refl
 
 -- an item, a comma, and the items after it
 joined : {m : Leaves} {close b : ℕ} {c : Token} {ts us ws : List Token} {vs : Values} {xs : Vals} (x : Val)
-    → Makes ts (c ∷ us) (pieces x) → symOf c ≡ comma → Items m close b us vs ws → AreRead vs xs → Closed close us ws (items xs) → Closed close ts ws (items (a-val x xs))
+    → Makes ts (c ∷ us) (pieces x) → symOf c ≡ comma → Items m close b us vs ws → AreRead vs xs → Closed close us ws (items xs)
+    → Closed close ts ws (items (a-val x xs))
 unfolding items
 joined {c = c} {us = us} x p e i q k = record {
   token = k .token;
@@ -202,7 +210,8 @@ mutual
   pattern-makes (a-literal p h) literal-read = clash cc
   pattern-makes (an-empty-array {o = o} {c = c} {ts = ts} p q) (array-read none-read) =
       makes-then (makes-one o (c ∷ ts) (mark-piece o leftSquare p refl)) (makes-one c ts (mark-piece c rightSquare q refl))
-  pattern-makes (an-array {o = o} {ts = ts} p i) (array-read r) = makes-then (makes-one o ts (mark-piece o leftSquare p refl)) (closed-mark refl (items-make i r))
+  pattern-makes (an-array {o = o} {ts = ts} p i) (array-read r) =
+      makes-then (makes-one o ts (mark-piece o leftSquare p refl)) (closed-mark refl (items-make i r))
   pattern-makes (a-tuple {o = o} {ts = ts} p s e i) (tuple-read (more-read {w = w} q r)) =
       makes-then (makes-one o ts (mark-piece o leftRound p refl)) (closed-mark refl (joined w (pattern-makes s q) e i r (items-make i r)))
 
@@ -214,17 +223,20 @@ mutual
 
 -- a left side, up to its `=`: a tuple in brackets; another pattern alone; a bare tuple, whose first item ends before
 data Side (b : ℕ) (ts us : List Token) (part : List Piece → List Piece) : Type 0 where
-  in-brackets : {o e : Token} {xs : List Token} {v : Value} → ts ≡ o ∷ xs → symOf o ≡ leftRound → value names b ts ≡ ok v (e ∷ us) → Closed rightRound xs (e ∷ us) part → Side b ts us part
+  in-brackets : {o e : Token} {xs : List Token} {v : Value} → ts ≡ o ∷ xs → symOf o ≡ leftRound → value names b ts ≡ ok v (e ∷ us)
+      → Closed rightRound xs (e ∷ us) part → Side b ts us part
   alone : eqb (lookahead ts) leftRound ≡ false → Closed equal ts us part → Side b ts us part
   bare : {v : Value} {xs : List Token} → value names b ts ≡ ok v xs → 1 + length us < length xs → Closed equal ts us part → Side b ts us part
 
-one-side : {b : ℕ} {e : Token} {ts us : List Token} {v : Value} {w : Val} → Spells names b ts v (e ∷ us) → symOf e ≡ equal → IsRead v w → Makes ts (e ∷ us) (pieces w) → Side b ts us (leftPieces w)
+one-side : {b : ℕ} {e : Token} {ts us : List Token} {v : Value} {w : Val} → Spells names b ts v (e ∷ us) → symOf e ≡ equal → IsRead v w
+    → Makes ts (e ∷ us) (pieces w) → Side b ts us (leftPieces w)
 unfolding leftPieces
 one-side {e = e} (a-name p h) f name-read m = alone (rw h) (record { token = e; is = f; makes = m })
 one-side (a-literal p h) f literal-read m = clash cc
 one-side {e = e} (an-empty-array p q) f (array-read r) m = alone (rw p) (record { token = e; is = f; makes = m })
 one-side {e = e} (an-array p i) f (array-read r) m = alone (rw p) (record { token = e; is = f; makes = m })
-one-side (a-tuple p s c i) f (tuple-read (more-read {w = w} q r)) m = in-brackets refl p (value-complete (a-tuple p s c i)) (joined w (pattern-makes s q) c i r (items-make i r))
+one-side (a-tuple p s c i) f (tuple-read (more-read {w = w} q r)) m =
+    in-brackets refl p (value-complete (a-tuple p s c i)) (joined w (pattern-makes s q) c i r (items-make i r))
 
 side : {b : ℕ} {ts us : List Token} {v : Value} {w : Val} → IsLeft b ts v us → IsRead v w → Side b ts us (leftPieces w)
 unfolding leftPieces
@@ -245,7 +257,8 @@ module _ (text table : List ℕ) (n : ℕ) where
       let k : length ts ≡ length (toks text table j i) = omega (arith, toks-length text table j i) in
       sym (take-append-seam ts us) ∙ ap₂ (λ (x : ℕ) (y : List Token). take x y) k s ∙ take-append-seam (toks text table j i) (toks text table n j)
 
-  closed-pieces : {close : ℕ} (i j : ℕ) {ts us : List Token} {P : List Piece → List Piece} → toks text table n i ≡ ts → Closed close ts us P → 1 + length us ≡ n - j → j < n
+  closed-pieces : {close : ℕ} (i j : ℕ) {ts us : List Token} {P : List Piece → List Piece} → toks text table n i ≡ ts → Closed close ts us P
+      → 1 + length us ≡ n - j → j < n
       → (r : List Piece) → patternPieces (toks text table j i) r ≡ P r
   closed-pieces i j {us = us} e k l h r =
       let m = k .makes in
@@ -256,7 +269,8 @@ module _ (text table : List ℕ) (n : ℕ) where
     value-less : {v : Value} {xs : List Token} → value names maxBrackets (toks text table n at) ≡ ok v xs → length xs < n - at
     value-less q = omega (arith, left-ok (rw q at (value-shrinks names maxBrackets (toks text table n at))), toks-length text table n at)
 
-    brackets-are : isBracketed text table n at end ≡ true ↔ ((eqb (lookahead (toks text table n at)) leftRound ≡ true) × (endsAt n end (value names maxBrackets (toks text table n at)) ≡ true))
+    brackets-are : isBracketed text table n at end ≡ true ↔
+        ((eqb (lookahead (toks text table n at)) leftRound ≡ true) × (endsAt n end (value names maxBrackets (toks text table n at)) ≡ true))
     unfolding isBracketed
     brackets-are = and-eq-true-iff (eqb (lookahead (toks text table n at)) leftRound) (endsAt n end (value names maxBrackets (toks text table n at)))
 
@@ -273,7 +287,8 @@ module _ (text table : List ℕ) (n : ℕ) where
       after-length = omega (arith, ap (λ (x : List Token). length x) after, toks-length text table n (end + 1))
 
       -- inside the brackets, and without any
-      side-inner : {P : List Piece → List Piece} → isBracketed text table n at end ≡ true → Side maxBrackets (toks text table n at) us P → (r : List Piece) → patternPieces (toks text table (end - 1) (at + 1)) r ≡ P r
+      side-inner : {P : List Piece → List Piece} → isBracketed text table n at end ≡ true → Side maxBrackets (toks text table n at) us P → (r : List Piece)
+          → patternPieces (toks text table (end - 1) (at + 1)) r ≡ P r
       side-inner h (in-brackets {o = o} {xs = xs} w p q k) =
           closed-pieces (at + 1) (end - 1) (first-of text table n at o xs w .rest) k (omega (arith, after-length, brackets-past h)) (omega arith)
       side-inner h (alone f k) = let t = brackets-are .0 h .0 in clash cc
@@ -281,7 +296,8 @@ module _ (text table : List ℕ) (n : ℕ) where
           let t = eqb-true (n - length xs) end (sym (ap (endsAt n end) q) ∙ brackets-are .0 h .1) in
           absurd (omega (arith, after-length, value-less q))
 
-      side-whole : {P : List Piece → List Piece} → isBracketed text table n at end ≡ false → Side maxBrackets (toks text table n at) us P → (r : List Piece) → patternPieces (toks text table end at) r ≡ P r
+      side-whole : {P : List Piece → List Piece} → isBracketed text table n at end ≡ false → Side maxBrackets (toks text table n at) us P → (r : List Piece)
+          → patternPieces (toks text table end at) r ≡ P r
       side-whole h (in-brackets {e = e} w p q k) =
           let t = brackets-are .1 (rw (w, p), ap (endsAt n end) q ∙ eq-eqb (n - length (e ∷ us)) end (omega (arith, after-length))) in
           clash cc
@@ -292,10 +308,12 @@ module _ (text table : List ℕ) (n : ℕ) where
         a-side : Side maxBrackets (toks text table n at) us (leftPieces w)
         a-side = side (left-is maxBrackets (toks text table n at) reads) (read-is v u w read)
 
-        pub left-inner : {out out' : List ℕ} {s s' : Place} → isBracketed text table n at end ≡ true → Puts (patternPieces (toks text table (end - 1) (at + 1))) out out' s s' → Puts (leftPieces w) out out' s s'
+        pub left-inner : {out out' : List ℕ} {s s' : Place} → isBracketed text table n at end ≡ true
+            → Puts (patternPieces (toks text table (end - 1) (at + 1))) out out' s s' → Puts (leftPieces w) out out' s s'
         left-inner h p = puts-same (side-inner h a-side) p
 
-        pub left-whole : {out out' : List ℕ} {s s' : Place} → isBracketed text table n at end ≡ false → Puts (patternPieces (toks text table end at)) out out' s s' → Puts (leftPieces w) out out' s s'
+        pub left-whole : {out out' : List ℕ} {s s' : Place} → isBracketed text table n at end ≡ false
+            → Puts (patternPieces (toks text table end at)) out out' s s' → Puts (leftPieces w) out out' s s'
         left-whole h p = puts-same (side-whole h a-side) p
 
 -- ---- the code's tests
@@ -305,13 +323,18 @@ module _ (text table : List ℕ) (n i : ℕ) (inside : i < n) {c : ℕ} (sees : 
   symbol-is = sees ∙ ap lookahead (toks-more text table n i inside)
 
   -- a bracket or a comma, and any other token
-  pub mark-put : {out out' : List ℕ} {s s' : Place} (x : ℕ) → among (ascii ",[]()") x ≡ true → c ≡ x → PutsWord (x ∷ []) out out' s s' → Puts (λ r. patternPiece (tokenAt text table i) ∷ r) out out' s s'
+  pub mark-put : {out out' : List ℕ} {s s' : Place} (x : ℕ) → among (ascii ",[]()") x ≡ true → c ≡ x → PutsWord (x ∷ []) out out' s s'
+      → Puts (λ r. patternPiece (tokenAt text table i) ∷ r) out out' s s'
   mark-put x m e p = rw (mark-piece (tokenAt text table i) x (sym symbol-is ∙ e) m) (p Kind.syntactic)
 
-  pub word-put : {out out' : List ℕ} {s s' : Place} → (c ≡ comma → ⊥) → (c ≡ leftSquare → ⊥) → (c ≡ rightSquare → ⊥) → (c ≡ leftRound → ⊥) → (c ≡ rightRound → ⊥)
+  pub word-put : {out out' : List ℕ} {s s' : Place} → (c ≡ comma → ⊥) → (c ≡ leftSquare → ⊥) → (c ≡ rightSquare → ⊥) → (c ≡ leftRound → ⊥)
+      → (c ≡ rightRound → ⊥)
       → PutsWord (tokenAt text table i .bytes) out out' s s' → Puts (λ r. patternPiece (tokenAt text table i) ∷ r) out out' s s'
   word-put f g h k l p =
-      rw (word-piece (tokenAt text table i) (rw (← symbol-is, ne-eqb c comma f, ne-eqb c leftSquare g, ne-eqb c rightSquare h, ne-eqb c leftRound k, ne-eqb c rightRound l))) (p Kind.name)
+      rw
+      (word-piece (tokenAt text table i)
+      (rw (← symbol-is, ne-eqb c comma f, ne-eqb c leftSquare g, ne-eqb c rightSquare h, ne-eqb c leftRound k, ne-eqb c rightRound l)))
+      (p Kind.name)
 
 module _ (text table : List ℕ) (n at end : ℕ) {c : ℕ} (sees : c ≡ lookahead (toks text table n at)) where
   pub not-round : (c ≡ leftRound → ⊥) → false ≡ isBracketed text table n at end
@@ -344,6 +367,7 @@ module _ (text table : List ℕ) (to i : ℕ) where
   unfolding patternPieces
   parts-none h = rw (toks-none text table to i h) puts-none
 
-  pub parts-more : {a b c : List ℕ} {s t u : Place} → i < to → Puts (λ r. patternPiece (tokenAt text table i) ∷ r) a b s t → Puts (patternPieces (toks text table to (i + 1))) b c t u → Puts (patternPieces (toks text table to i)) a c s u
+  pub parts-more : {a b c : List ℕ} {s t u : Place} → i < to → Puts (λ r. patternPiece (tokenAt text table i) ∷ r) a b s t
+      → Puts (patternPieces (toks text table to (i + 1))) b c t u → Puts (patternPieces (toks text table to i)) a c s u
   unfolding patternPieces
   parts-more h p q = rw (toks-more text table to i h) (puts-then p q)

@@ -76,7 +76,8 @@ value-some u nothing (some v) n f m = read-some v u (fault 14 (startOf v)) n
 value-some u nothing nothing n f m = absurd (true≢false m)
 
 -- no slot is missing a value
-not-missing : (place k : ℕ) (s : Slot) (ss : List Slot) → lacked place k (map isMissing (s ∷ ss)) ≡ [] → (isMissing s ≡ false) × (lacked place (suc k) (map isMissing ss) ≡ [])
+not-missing : (place k : ℕ) (s : Slot) (ss : List Slot) → lacked place k (map isMissing (s ∷ ss)) ≡ []
+    → (isMissing s ≡ false) × (lacked place (suc k) (map isMissing ss) ≡ [])
 unfolding lacked
 not-missing place k s ss h = go (isMissing s) h
   where
@@ -111,7 +112,8 @@ call-some hs c l n = go (find hs (c .op)) refl
     go : (o : Option Header) → find hs (c .op) ≡ o → (p : PlanCall) × (planCall hs c ≡ some p)
     go nothing e = let q = unknown hs c e in clash cc
     go (some h) e =
-        let q = append-eq-nil-iff {p = boundAt (c .op .start) h c} {q = leftFaults h c} .0 (first-none (boundAt (c .op .start) h c ++ leftFaults h c) (sym (known hs c h e) ∙ none)) in
+        let q = append-eq-nil-iff {p = boundAt (c .op .start) h c} {q = leftFaults h c} .0
+        (first-none (boundAt (c .op .start) h c ++ leftFaults h c) (sym (known hs c h e) ∙ none)) in
         let b = row-none _ (q .0) in
         let d = row-none _ (found-clean hs (c .op) h l e) in
         let w = read-some (c .left) (resultType (h .results)) (fault 20 (startOf (c .left))) (q .1) in

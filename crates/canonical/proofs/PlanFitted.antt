@@ -13,9 +13,11 @@ use Rattle.lexis.specs.Lexer.{Token}
 use Rattle.lexis.specs.Words.{sameBytes}
 use Rattle.syntax.specs.Tree.{Value, Ty, Tys, Param, Result, Header, Arg, Call, Document}
 use Rattle.syntax.specs.Tree.Arg.{positional, named}
-use Rattle.syntax.specs.Grammar.{names, literals, both, Separated, last, next, Dims, no-pair, a-pair, IsType, a-plain, a-tuple-type, IsTypes, last-type, next-type}
+use Rattle.syntax.specs.Grammar.{names, literals, both, Separated, last, next, Dims, no-pair, a-pair, IsType, a-plain, a-tuple-type, IsTypes, last-type}
+use Rattle.syntax.specs.Grammar.{next-type}
 use Rattle.syntax.specs.Grammar.{IsDefault, no-default, a-default, IsParam, IsResult, a-result, IsHeader, a-header, IsList, no-header, a-header-more}
-use Rattle.syntax.specs.Grammar.{the-name, IsArg, a-positional, a-named, IsLeft, one-pattern, a-bare-tuple, IsEnd, no-semicolon, a-semicolon, IsCall, IsBody, last-call, next-call, IsDocument, a-document}
+use Rattle.syntax.specs.Grammar.{the-name, IsArg, a-positional, a-named, IsLeft, one-pattern, a-bare-tuple, IsEnd, no-semicolon, a-semicolon, IsCall, IsBody}
+use Rattle.syntax.specs.Grammar.{last-call, next-call, IsDocument, a-document}
 use Rattle.syntax.specs.Grammar as G
 use Rattle.lists.specs.Fault.{first}
 use Rattle.lists.specs.Names.{valueOf}
@@ -29,7 +31,9 @@ use Rattle.documents.specs.Accepted.{AcceptedDocument}
 use Rattle.documents.proofs.Items.{clash}
 use Rattle.canonical.specs.Plan.{Plan, PlanCall, spellings, valueFor, valuesFor, planCall, planCalls, planOf}
 use Rattle.canonical.specs.Layout.{leftPieces}
-use Rattle.canonical.proofs.Fit.{IsName, Fits, fit-name, fit-number, fit-scalar, fit-extent, fit-string, fit-logical, fit-truth, fit-array, fit-tuple, LeftFits, alone, several, FitsParams, no-param, a-param, CallFits, CallsFit, one-call, more-calls, NamesFit, one-name, more-names, PlanFits}
+use Rattle.canonical.proofs.Fit.{IsName, Fits, fit-name, fit-number, fit-scalar, fit-extent, fit-string, fit-logical, fit-truth, fit-array, fit-tuple}
+use Rattle.canonical.proofs.Fit.{LeftFits, alone, several, FitsParams, no-param, a-param, CallFits, CallsFit, one-call, more-calls, NamesFit, one-name}
+use Rattle.canonical.proofs.Fit.{more-names, PlanFits}
 use Rattle.canonical.proofs.Good.{Each, good-name, AllGood, lex-good}
 use Rattle.canonical.proofs.Planned.{bound}
 use Rattle.canonical.proofs.Found.{find-same}
@@ -48,7 +52,8 @@ module _ {A : Type 0} {Item : List Token → A → List Token → Type 0} (P : A
         let z = row-good r (y .1 .1) in
         ((y .0, z .0), z .1)
 
-row-some : {A : Type 0} {Item : List Token → A → List Token → Type 0} {close : ℕ} {ts us : List Token} {xs : List A} → Separated Item close ts xs us → 0 < length xs
+row-some : {A : Type 0} {Item : List Token → A → List Token → Type 0} {close : ℕ} {ts us : List Token} {xs : List A} → Separated Item close ts xs us
+    → 0 < length xs
 row-some (last x c) = omega arith
 row-some (next x c r) = omega arith
 
@@ -166,7 +171,8 @@ values-fit {b} (p ∷ ps) vs xs ws gs fs ys h =
     let P = Reads both b in
     let k = or-else P o (p .default) (or-else P (byPlace p vs) (byName (p .name) xs) (by-place P p vs fs) (by-name P (p .name) xs ys)) (gs .0 .default) in
     let r : FitsParams b (p ∷ ps) (x .it ∷ y .it) =
-    a-param (gs .0 .name) (value-fits (orElse o (p .default)) (p .ty) (x .it) k (x .there)) (values-fit ps (later vs) xs (y .it) (gs .1) (all-later P vs fs) ys (y .there)) in
+    a-param (gs .0 .name) (value-fits (orElse o (p .default)) (p .ty) (x .it) k (x .there))
+    (values-fit ps (later vs) xs (y .it) (gs .1) (all-later P vs fs) ys (y .there)) in
     rw e at r
 
 -- ---- left sides
@@ -234,7 +240,9 @@ module _ (hs : List Header) (good : Each (GoodHeader maxBrackets) hs) (lawful : 
         found = λ t s. find-same hs t (c .op) s ∙ x .there;
         name = g .name;
         left = g .left (resultType (h .results)) (y .it) (y .there);
-        values = values-fit (h .params) (leading (c .args)) (c .args) (z .it) (k .params) (all-leading (Reads both maxBrackets) (c .args) (g .args)) (g .args) (z .there);
+        values =
+            values-fit (h .params) (leading (c .args)) (c .args) (z .it) (k .params) (all-leading (Reads both maxBrackets) (c .args) (g .args)) (g .args)
+            (z .there);
         some-param = k .some-param;
         distinct = apart-params h (ap first (found-clean hs (c .op) h lawful (x .there)));
       } in
@@ -261,7 +269,8 @@ module _ (hs : List Header) (good : Each (GoodHeader maxBrackets) hs) (lawful : 
       let z = bound (planCalls hs cs) _ e in
       let whole : Plan = record { graph = n .bytes; inputs = spellings is; outputs = spellings os; calls = z .it } in
       let m : whole ≡ p = cc (z .gives) in
-      let r : PlanFits hs whole = record { graph = good-name n (k .1 .1 .1 .0) s; inputs = x .0; outputs = y .0; calls = calls-fit (z .it) b (y .1 .1) (z .there) } in
+      let r : PlanFits hs whole = record
+      { graph = good-name n (k .1 .1 .1 .0) s; inputs = x .0; outputs = y .0; calls = calls-fit (z .it) b (y .1 .1) (z .there) } in
       rw m at r
 
 pub plan-fits : (list doc : List ℕ) (hs : List Header) (d : Document) (p : Plan) → AcceptedList list hs → AcceptedDocument hs doc d

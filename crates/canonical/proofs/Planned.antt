@@ -52,7 +52,8 @@ pub planned : (hs : List Header) (c : Call) {p : PlanCall} → planCall hs c ≡
 unfolding planCall
 planned hs c h =
     let made : Val → List Val → PlanCall = λ l vs. record { op = c .op .bytes; left = l; values = vs } in
-    let x = bound (find hs (c .op)) (λ g. bind (readAt (c .left) (resultType (g .results))) (λ l. bind (valuesFor (slots (g .params) (c .args))) (λ vs. some (made l vs)))) h in
+    let x = bound (find hs (c .op))
+    (λ g. bind (readAt (c .left) (resultType (g .results))) (λ l. bind (valuesFor (slots (g .params) (c .args))) (λ vs. some (made l vs)))) h in
     let y = both (readAt (c .left) (resultType (x .it .results))) (valuesFor (slots (x .it .params) (c .args))) made (x .gives) in
     let d : Planned hs c (made (y .one) (y .two)) = record { header = x .it; found = x .there; op = refl; left = y .one-there; values = y .two-there } in
     rw (y .made) at d

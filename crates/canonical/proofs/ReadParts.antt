@@ -1,15 +1,14 @@
 -- What a value that was read says of its parts and of the type that it was read at: items one by one; arrays and tuples; leaves, which
 -- the writing code tells by the kinds of their tokens. Assumes nothing.
-use mathlib.Core.Path.{_≡_, refl, subst, _∙_}
+use mathlib.Core.Path.{_≡_, refl, ap, subst}
 use mathlib.Core.Bool.{Bool, true, false, cond}
 use mathlib.Core.List.{List}
 use mathlib.Core.Option.{Option, some}
 use mathlib.Core.Option.{none as nothing}
-use Prim.Native.Nat.{ℕ, zero, suc, _+_, _-_, _<_}
+use Prim.Native.Nat.{ℕ, zero, suc, _-_, _<_}
 use native.Mathlib.Omega.{arith}
 use lib.Dec.{eqb}
-use lib.ListN.{getD, drop}
-use lib.Seq.{getD-take, getD-drop}
+use lib.ListN.{getD}
 use Rattle.lexis.specs.Kind as Kind
 use Rattle.lexis.specs.Lexer.{Token}
 use Rattle.lexis.specs.Symbol.{symOf, symbolOf, isLiteral, aName}
@@ -19,17 +18,16 @@ use Rattle.syntax.specs.Tree.Values.{more}
 use Rattle.syntax.specs.Tree.Tys.{no-type, a-type}
 use Rattle.syntax.specs.Grammar.{IsTypeName}
 use Rattle.syntax.specs.Parser.{rest}
-use Rattle.syntax.specs.Table.{startAt, endAt, tokenAt, Holds}
 use Rattle.syntax.specs.Inner.{lookahead}
-use Rattle.syntax.proofs.Row.{cond-has}
-use Rattle.syntax.proofs.Right.{choice}
 use Rattle.lists.specs.Reading.{Val, Vals, vArray, vTuple, a-val, bind, readAt, readAll, readEach, fits}
-use Rattle.lists.specs.Fitting.{stacked, IsBase, Columns}
+use Rattle.lists.specs.Fitting.{isLeaf, stacked, IsBase, Columns}
 use Rattle.lists.specs.Fitting.IsBase.{a-word, a-tuple-base}
+use Rattle.lists.proofs.Leaves.{LeafKind, leaf-kind}
+use Rattle.lists.proofs.Leaves.LeafKind.{whole-kind, real-kind, string-kind, truth-kind}
+use Rattle.lists.proofs.Leaves.LeafKind.{name-kind as is-name}
 use Rattle.lists.proofs.Fits.{tuple-no}
 use Rattle.lists.proofs.Phrases.{tuple-columns}
 use Rattle.canonical.specs.Writing.{leafAt}
-use Rattle.canonical.proofs.Good.{keyword-not}
 
 clash : _≡_ {A = ℕ} 0 1 → ⊥
 clash z = omega arith
@@ -54,7 +52,8 @@ pub all-parts : (v : Value) (vs : Values) (u : Ty) {ws : Vals} → readAll (more
 unfolding readAll
 all-parts v vs u e = bind-parts (readAt v u) (readAll vs u) e
 
-pub each-parts : (v : Value) (vs : Values) (u : Ty) (us : Tys) {ws : Vals} → readEach (more v vs) (a-type u us) ≡ some ws → Parted (readAt v u) (readEach vs us) ws
+pub each-parts : (v : Value) (vs : Values) (u : Ty) (us : Tys) {ws : Vals} → readEach (more v vs) (a-type u us) ≡ some ws
+    → Parted (readAt v u) (readEach vs us) ws
 unfolding readEach
 each-parts v vs u us e = bind-parts (readAt v u) (readEach vs us) e
 
@@ -79,7 +78,8 @@ bind-items : (p : Option Vals) (f : Vals → Val) {w : Val} → bind p (λ ws. s
 bind-items nothing f e = absurd (clash (cc))
 bind-items (some ws) f e = (ws, refl, cc)
 
-pub array-items : (k : ℕ) (u : Ty) (o : Token) (vs : Values) {w : Val} → (k ≡ 0 → ⊥) → readAt (array o vs) (stacked k u) ≡ some w → (ws : Vals) × (readAll vs (stacked (k - 1) u) ≡ some ws) × (vArray ws ≡ w)
+pub array-items : (k : ℕ) (u : Ty) (o : Token) (vs : Values) {w : Val} → (k ≡ 0 → ⊥) → readAt (array o vs) (stacked k u) ≡ some w
+    → (ws : Vals) × (readAll vs (stacked (k - 1) u) ≡ some ws) × (vArray ws ≡ w)
 unfolding readAt stacked
 array-items k u o vs {w} h e =
     let q : k ≡ suc (k - 1) = omega (arith, h) in
@@ -87,9 +87,11 @@ array-items k u o vs {w} h e =
 
 -- only a tuple type reads a tuple
 pub data TupleRead (ts : List Token) (vs : Values) (w : Val) : Type 0 where
-  tuple-read : {c : ℕ} {cs : Tys} {xs : List Token} → Columns 0 c (rest ts) cs xs → ((ws : Vals) × (readEach vs cs ≡ some ws) × (vTuple ws ≡ w)) → TupleRead ts vs w
+  tuple-read : {c : ℕ} {cs : Tys} {xs : List Token} → Columns 0 c (rest ts) cs xs → ((ws : Vals) × (readEach vs cs ≡ some ws) × (vTuple ws ≡ w))
+      → TupleRead ts vs w
 
-pub tuple-items : (k : ℕ) {c : ℕ} {ts xs : List Token} {u : Ty} (o : Token) (vs : Values) {w : Val} → IsBase c ts u xs → readAt (tuple o vs) (stacked k u) ≡ some w → TupleRead ts vs w
+pub tuple-items : (k : ℕ) {c : ℕ} {ts xs : List Token} {u : Ty} (o : Token) (vs : Values) {w : Val} → IsBase c ts u xs
+    → readAt (tuple o vs) (stacked k u) ≡ some w → TupleRead ts vs w
 unfolding readAt stacked
 tuple-items zero {u = u} o vs (a-word h) e = absurd (unread (tuple o vs) u (tuple-no o vs h) e)
 tuple-items zero o vs (a-tuple-base {vs = cs} f d h) e = tuple-read (tuple-columns h) (bind-items (readEach vs cs) vTuple e)
@@ -102,29 +104,23 @@ none-or-none : {A : Type 0} (x : Bool) {a : A} → cond x nothing nothing ≡ so
 none-or-none true e = clash (cc)
 none-or-none false e = clash (cc)
 
-pub leaf-word : (k : ℕ) {c : ℕ} {ts xs : List Token} {u : Ty} (t : Token) {w : Val} → IsBase c ts u xs → leafAt (stacked k u) t ≡ some w → IsTypeName (lookahead ts) u × (leafAt u t ≡ some w)
+pub leaf-word : (k : ℕ) {c : ℕ} {ts xs : List Token} {u : Ty} (t : Token) {w : Val} → IsBase c ts u xs → leafAt (stacked k u) t ≡ some w
+    → IsTypeName (lookahead ts) u × (leafAt u t ≡ some w)
 unfolding stacked
 leaf-word zero t (a-word h) e = (h, e)
 leaf-word zero t (a-tuple-base f d h) e = absurd (none-or-none (eqb (t .kind) Kind.name) e)
 leaf-word (suc k) t h e = absurd (none-or-none (eqb (t .kind) Kind.name) e)
 
--- a token that is seen as a name is one: no keyword is, and a syntactic character is seen as its first byte
+-- a token that is seen as a name is one, and one that is seen as a literal is none
 name-kind : (t : Token) → getD (t .bytes) 0 0 < 256 → symOf t ≡ aName → eqb (t .kind) Kind.name ≡ true
-unfolding symOf symbolOf
-name-kind t l =
-    choice Named (eqb (t .kind) Kind.name) (λ e z. e) (λ e.
-    other-kind Kind.whole (λ z. omega arith)
-    (other-kind Kind.real (λ z. omega arith)
-    (other-kind Kind.string (λ z. omega arith)
-    (other-kind Kind.truth (λ z. omega arith)
-    (other-kind Kind.keyword (λ z. keyword-not (t .bytes) z)
-    (other-kind Kind.syntactic (λ z. omega arith) (λ z. absurd (omega arith))))))))
+name-kind t l e = go (leaf-kind t l (ap isLeaf e)) e
   where
-    Named : ℕ → Type 0
-    Named s = s ≡ aName → eqb (t .kind) Kind.name ≡ true
-
-    other-kind : (k : ℕ) {a b : ℕ} → (a ≡ aName → ⊥) → Named b → Named (cond (eqb (t .kind) k) a b)
-    other-kind k f g = cond-has Named (eqb (t .kind) k) (λ z. absurd (f z)) g
+    go : {k s : ℕ} → LeafKind k s → s ≡ aName → eqb k Kind.name ≡ true
+    go is-name z = refl
+    go whole-kind z = absurd (omega arith)
+    go real-kind z = absurd (omega arith)
+    go string-kind z = absurd (omega arith)
+    go truth-kind z = absurd (omega arith)
 
 literal-kind : (t : Token) → isLiteral (symOf t) ≡ true → eqb (t .kind) Kind.name ≡ false
 unfolding symOf symbolOf
@@ -141,10 +137,3 @@ name-leaf t u l e = simp (name-kind t l e)
 pub literal-leaf : (t : Token) (u : Ty) → isLiteral (symOf t) ≡ true → leafAt u t ≡ readAt (literal t) u
 unfolding readAt
 literal-leaf t u e = simp (literal-kind t e)
-
--- the first byte of a token is a byte of the text
-pub first-byte : (text table : List ℕ) (n i : ℕ) → Holds text table n → i < n → ((j : ℕ) → getD text j 0 < 256) → getD (tokenAt text table i .bytes) 0 0 < 256
-unfolding tokenAt
-first-byte text table n i h l f =
-    let e = getD-take (endAt table i - startAt table i) (drop (startAt table i) text) 0 0 (omega (arith, h .within i l .0)) ∙ getD-drop (startAt table i) text 0 0 in
-    omega (arith, e, f (startAt table i + 0))

@@ -30,6 +30,12 @@ unfolding spanLen
 span-again f r none h = span-stop f r h
 span-again f r (more y a) h = simp (y, span-again f r a h)
 
+-- where all bytes pass, the run is all
+pub span-of-all : (f : ℕ → Bool) {s : List ℕ} → All f s → spanLen f s ≡ length s
+unfolding spanLen
+span-of-all f none = refl
+span-of-all f (more y a) = simp (y, span-of-all f a)
+
 -- what the run counts passes
 pub span-all : (f : ℕ → Bool) (s : List ℕ) → All f (take (spanLen f s) s)
 unfolding spanLen

@@ -8,7 +8,7 @@ use native.Mathlib.Omega.{arith}
 use borrow.Author.Tests.{leb-true}
 use lib.Dec.{leb}
 use lib.ListN.{length, take, length-append}
-use lib.Seq.{sets, sets-eq, take-append-seam}
+use lib.Seq.{sets}
 use Rattle.lexis.specs.Sizes.{maxText, maxTokens}
 use Rattle.lexis.specs.Answer.{answer}
 use Rattle.lexis.specs.declared.Answer.{Answer}
@@ -21,12 +21,13 @@ use Rattle.canonical.specs.Program.{printed, shown}
 use Rattle.canonical.specs.Writing.{passed, stored, numberThen}
 use Rattle.canonical.proofs.Digits.{digits-length}
 use Rattle.canonical.proofs.Putting.{Stores, stores-then}
-use Rattle.canonical.proofs.Measures.{passed-is, stored-is}
+use Rattle.canonical.proofs.Measures.{passed-is, stored-is, stored-front}
 
 -- ---- four numbers
 
 -- they are stored one after another
-pub numbers-stored : (a : Answer) (out : List ℕ) {x y z out' : List ℕ} {i j k end : ℕ} → Stores (numberThen (a .code) 32) out x 0 i → Stores (numberThen (a .text) 32) x y i j
+pub numbers-stored : (a : Answer) (out : List ℕ) {x y z out' : List ℕ} {i j k end : ℕ} → Stores (numberThen (a .code) 32) out x 0 i
+    → Stores (numberThen (a .text) 32) x y i j
     → Stores (numberThen (a .position) 32) y z j k → Stores (numberThen (a .detail) 10) z out' k end → Stores (printed a) out out' 0 end
 unfolding printed
 numbers-stored a out {x} {y} {z} {i = i} {j} {k} c t p d =
@@ -37,7 +38,8 @@ numbers-stored a out {x} {y} {z} {i = i} {j} {k} c t p d =
 -- numbers of at most ten digits take at most 44 bytes
 pub numbers-length : (a : Answer) → a .code < 10 ^ 10 → a .text < 10 ^ 10 → a .position < 10 ^ 10 → a .detail < 10 ^ 10 → length (printed a) ≤ 44
 unfolding printed
-numbers-length a c t p d = simp length-append (omega (arith, digits-length 9 (a .code) c, digits-length 9 (a .text) t, digits-length 9 (a .position) p, digits-length 9 (a .detail) d))
+numbers-length a c t p d =
+    simp length-append (omega (arith, digits-length 9 (a .code) c, digits-length 9 (a .text) t, digits-length 9 (a .position) p, digits-length 9 (a .detail) d))
 
 -- ---- the stages
 
@@ -50,7 +52,8 @@ sound-guard : {n : ℕ} (b : Bool) (r : Answer) (s : Stage (List ℕ)) → 1 ≤
 sound-guard true r s c h = h refl
 sound-guard false r s c h = stops c
 
-sound-then : {A : Type 0} {n : ℕ} (s : Stage A) (f : A → Stage (List ℕ)) → ((r : Answer) → s ≡ stop r → 3 ≤ r .code) → ((a : A) → Sound n (f a)) → Sound n (andThen s f)
+sound-then : {A : Type 0} {n : ℕ} (s : Stage A) (f : A → Stage (List ℕ)) → ((r : Answer) → s ≡ stop r → 3 ≤ r .code) → ((a : A) → Sound n (f a))
+    → Sound n (andThen s f)
 sound-then (pass a) f c h = h a
 sound-then (stop r) f c h = let l = c r refl in stops {r = r} (omega (arith, l))
 
@@ -85,7 +88,8 @@ module _ (list doc work₁ work₂ out : List ℕ) where
   stages = written list doc (canonRoom work₁ work₂ out)
 
   -- after acceptance the output holds the text
-  pub text-shown : {a : Answer} {out' : List ℕ} → a ≡ canonAnswer list doc (canonRoom work₁ work₂ out) → out' ≡ outputAfter stages out → a .code ≡ 0 → Stores (shown stages) out out' 0 (a .detail)
+  pub text-shown : {a : Answer} {out' : List ℕ} → a ≡ canonAnswer list doc (canonRoom work₁ work₂ out) → out' ≡ outputAfter stages out → a .code ≡ 0
+      → Stores (shown stages) out out' 0 (a .detail)
   unfolding canonAnswer outputAfter
   text-shown {a} {out'} e o z = go stages (sound-written list doc (canonRoom work₁ work₂ out)) e o
     where
@@ -94,7 +98,8 @@ module _ (list doc work₁ work₂ out : List ℕ) where
       go (stop r) (stops c) e o = let d : a .code ≡ r .code = ap (λ (x : Answer). x .code) e in absurd (omega (arith, d, z, c))
 
   -- after a refusal the output is as it was, and its numbers are stored there
-  pub numbers-shown : {a : Answer} {mid out' : List ℕ} {end : ℕ} → a ≡ canonAnswer list doc (canonRoom work₁ work₂ out) → mid ≡ outputAfter stages out → (a .code ≡ 0 → ⊥)
+  pub numbers-shown : {a : Answer} {mid out' : List ℕ} {end : ℕ} → a ≡ canonAnswer list doc (canonRoom work₁ work₂ out) → mid ≡ outputAfter stages out
+      → (a .code ≡ 0 → ⊥)
       → Stores (printed a) mid out' 0 end → Stores (shown stages) out out' 0 end
   unfolding canonAnswer outputAfter
   numbers-shown {a} {mid} {out'} {end} e o n p = go stages e o
@@ -107,7 +112,9 @@ module _ (list doc work₁ work₂ out : List ℕ) where
 
 -- Bytes that are stored from the first on, where the output holds them, are its first bytes, as many as are counted. So whoever lends `show`
 -- at least 44 bytes, and as many as the text has, finds there what is shown.
-pub shown-bytes : (out bytes : List ℕ) → length bytes ≤ length out → length bytes ≤ maxText → (take (passed 0 bytes) (stored out 0 bytes) ≡ bytes) × (passed 0 bytes ≡ length bytes)
+pub shown-bytes : (out bytes : List ℕ) → length bytes ≤ length out → length bytes ≤ maxText
+    → (take (passed 0 bytes) (stored out 0 bytes) ≡ bytes) × (passed 0 bytes ≡ length bytes)
 shown-bytes out bytes h l =
-    let s = in-full out bytes h l in
-    (rw (← s .0, ← s .1, sets-eq bytes out 0 (omega (arith, h)), take-append-seam), sym (s .0))
+    let e = passed-is 0 bytes (omega arith) in
+    let p : passed 0 bytes ≡ length bytes = omega (arith, e, l) in
+    (rw p (stored-front out bytes h (omega (arith, l))), p)

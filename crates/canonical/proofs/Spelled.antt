@@ -1,27 +1,33 @@
--- How numbers and strings are spelt, step by step as the code does it. In order: the digits of a number, and the number of digits;
--- exponents; reduced numbers; the quote and the content of a string.
+-- How numbers and strings are spelt, step by step as the code does it. In order: the digits of a number, stored from the last on; digits that spell a number
+-- as they are; exponents; reduced numbers; the quote and the content of a string.
 use mathlib.Core.Path.{_≡_, refl, sym, ap, ap₂, _∙_, subst}
 use mathlib.Core.Bool.{Bool, true, false, cond, _&&_, and-true}
-use mathlib.Core.List.{List, [], _∷_, _++_}
-use Prim.Native.Nat.{ℕ, zero, suc, _+_, _-_, _/_, _%_, _≤_, _<_}
+use mathlib.Core.List.{List, [], _∷_, _++_, append-assoc, append-nil}
+use Prim.Native.Nat.{ℕ, zero, suc, _+_, _-_, _*_, _^_, _/_, _%_, _≤_, _<_}
+use native.Mathlib.Decide.{decLt}
 use native.Mathlib.Omega.{arith}
 use native.Mathlib.Numerals.{add-one}
-use borrow.Author.Tests.{eq-eqb, ne-eqb, lt-ltb, le-ltb, ltb-true, leb-true, leb-false}
+use borrow.Author.Tests.{eq-eqb, ne-eqb, lt-ltb, le-ltb, ltb-true, leb-true}
 use lib.Dec.{T, ltb, leb}
 use lib.IntN.{ℤ, pos, negsuc, natAbs, _-ℤ_, +ℤ-idl}
 use lib.Signed.{mag, ltZ, nonNeg}
-use lib.ListN.{length, getD, take, drop, drop-of-length-le}
-use lib.Seq.{drop-cons}
+use lib.ListN.{length, getD, set, take, drop, length-set, length-drop, drop-of-length-le}
+use lib.Seq.{drop-cons, take-all, take-length, lt-length-set, getD-set-same, drop-set-lt}
 use mir.Syntax.{w32, w64}
 use mir.Val.{Fits, SFits, toZ, ofZ}
 use mir.Facts.{toZ-ofZ}
 use Rattle.lexis.specs.Ascii.{byte}
-use Rattle.lexis.specs.Sizes.{maxExtent, maxExponent, maxWritten, mantissaEnd}
+use Rattle.lexis.specs.Sizes.{maxExponent, maxWritten, mantissaEnd}
+use Rattle.lexis.specs.Bytes.{isDigit}
 use Rattle.lexis.specs.Number.{valueFrom, partsOf, writtenOf, reducedOf, isNear, isSmall, inRange, reductionOf, reduction}
 use Rattle.lexis.specs.declared.number.Reduction.the-variants.{Number, OutOfRange}
 use Rattle.lists.specs.Reading.{contentOf}
-use Rattle.lists.proofs.Extents.{too-large}
+use Rattle.lists.proofs.Extents.{value-step}
 use Rattle.canonical.specs.Spelling.{decimalBy, decimal, spellExponent, holdsSingle, quoteFor}
+use Rattle.canonical.specs.Writing.{Unpadded, AreDigits}
+use Rattle.canonical.proofs.Fit.{All, none, more}
+use Rattle.canonical.proofs.Good.{digit-range}
+use Rattle.canonical.proofs.Runs.{span-all}
 
 -- ---- digits
 
@@ -43,15 +49,114 @@ pub digits-more : (n : ℕ) → 10 ≤ n → decimal n ≡ decimal (n / 10) ++ (
 unfolding decimal decimalBy
 digits-more n h =
     let last : List ℕ = (byte "0" + n % 10) ∷ [] in
-    digits-fuel n (suc n) n (omega arith) (omega arith) ∙ rw (le-ltb n 10 h) (ap (λ (ds : List ℕ). ds ++ last) (digits-fuel n (n / 10) (n / 10) (omega arith) (omega arith)))
+    digits-fuel n (suc n) n (omega arith) (omega arith) ∙ rw (le-ltb n 10 h)
+    (ap (λ (ds : List ℕ). ds ++ last) (digits-fuel n (n / 10) (n / 10) (omega arith) (omega arith)))
 
--- the number that digits spell after a number v: beyond the limit where v is; v where no digit is left
-pub beyond : (v : ℕ) (ds : List ℕ) → maxExtent < v → maxExtent < valueFrom v ds
-beyond v ds h = leb-false (valueFrom v ds) maxExtent (sym (too-large v ds h))
+-- the digits of n are those of `rest` and those stored behind place i
+pub record Filled (n rest i : ℕ) (buffer : List ℕ) : Type 0 where
+  pub few : rest < 10 ^ suc i
+  pub digits : decimal n ≡ decimal rest ++ drop (i + 1) buffer
 
-pub value-end : (w : List ℕ) (i v : ℕ) → length w ≤ i → valueFrom v (drop i w) ≡ v
+-- a word has at most 20 digits
+pub filled-none : (n : ℕ) (buffer : List ℕ) → n < 2 ^ 64 → length buffer ≤ 20 → Filled n n 19 buffer
+filled-none n buffer h l = record {
+  few = omega arith;
+  digits = sym (append-nil (decimal n))
+      ∙ ap (λ (s : List ℕ). decimal n ++ s) (sym (drop-of-length-le buffer l));
+}
+
+-- a number of two digits or more has a place before place i
+pub filled-room : {n rest : ℕ} (i : ℕ) {buffer : List ℕ} → 10 ≤ rest → Filled n rest i buffer → 0 < i
+filled-room zero h f = absurd (omega (arith, f .few))
+filled-room (suc i) h f = omega arith
+
+-- its last digit is stored there
+stored-digit : (buffer : List ℕ) (i d : ℕ) → i < length buffer → drop i (set buffer i d) ≡ d ∷ drop (i + 1) buffer
+stored-digit buffer i d l = drop-cons (set buffer i d) i 0 (lt-length-set buffer i d l)
+    ∙ rw (getD-set-same buffer i d 0 l, drop-set-lt (suc i) buffer i d (omega arith), add-one i)
+
+pub filled-more : {n rest : ℕ} (i : ℕ) {buffer : List ℕ} → 10 ≤ rest → i < length buffer → Filled n rest i buffer
+    → Filled n (rest / 10) (i - 1) (set buffer i (byte "0" + rest % 10))
+filled-more zero h l f = absurd (omega (arith, f .few))
+filled-more {n} {rest} (suc i) {buffer} h l f =
+    let d = byte "0" + rest % 10 in
+    let before : suc i - 1 ≡ i = omega arith in
+    let here : suc i - 1 + 1 ≡ suc i = omega arith in
+    record {
+      few = rw before (omega (arith, f .few));
+      digits =
+          f .digits
+          ∙ ap (λ (s : List ℕ). s ++ drop (suc i + 1) buffer) (digits-more rest h)
+          ∙ append-assoc (decimal (rest / 10)) (d ∷ []) (drop (suc i + 1) buffer)
+          ∙ ap (λ (s : List ℕ). decimal (rest / 10) ++ s) (sym (ap (λ (k : ℕ). drop k (set buffer (suc i) d)) here ∙ stored-digit buffer (suc i) d l));
+    }
+
+pub filled-all : {n rest i : ℕ} {buffer : List ℕ} → rest < 10 → i < 20 → length buffer ≡ 20 → Filled n rest i buffer
+    → take (20 - i) (drop i (set buffer i (byte "0" + rest))) ≡ decimal n
+filled-all {n} {rest} {i} {buffer} h l k f =
+    take-all (20 - i) (drop i (set buffer i (byte "0" + rest))) (simp (length-drop, length-set) (omega (arith, k)))
+    ∙ stored-digit buffer i (byte "0" + rest) (omega (arith, l, k))
+    ∙ ap (λ (s : List ℕ). s ++ drop (i + 1) buffer) (sym (digits-one rest h))
+    ∙ sym (f .digits)
+
+-- ---- digits that spell a number
+
+-- digits after those of a number that is not 0
+digits-after : (v : ℕ) {s : List ℕ} → 0 < v → All isDigit s → decimal (valueFrom v s) ≡ decimal v ++ s
 unfolding valueFrom
-value-end w i v h = rw (drop-of-length-le w h)
+digits-after v p none = sym (append-nil (decimal v))
+digits-after v p (more {c} {s} h a) =
+    let r = digit-range c h in
+    let w = v * 10 + (c - byte "0") in
+    let tens : w / 10 ≡ v = omega (arith, r) in
+    let unit : byte "0" + w % 10 ≡ c = omega (arith, r) in
+    digits-after w (omega (arith, p)) a
+    ∙ ap (λ (ds : List ℕ). ds ++ s) (digits-more w (omega (arith, p)) ∙ ap₂ (λ (x y : ℕ). decimal x ++ (y ∷ [])) tens unit)
+    ∙ append-assoc (decimal v) (c ∷ []) s
+
+-- digits without leading zeros are those of their number; a last zero leads nothing
+digits-own : (c : ℕ) {s : List ℕ} → isDigit c ≡ true → All isDigit s → (c ≡ byte "0" → s ≡ []) → decimal (valueFrom 0 (c ∷ s)) ≡ c ∷ s
+unfolding valueFrom
+digits-own c {s} h a z = go (decLt (byte "0") c)
+  where
+    go : Dec (byte "0" < c) → decimal (valueFrom (0 * 10 + (c - byte "0")) s) ≡ c ∷ s
+    go (yes l) =
+        let r = digit-range c h in
+        let own : byte "0" + (c - byte "0") ≡ c = omega (arith, l) in
+        let value : 0 * 10 + (c - byte "0") ≡ c - byte "0" = omega arith in
+        ap (λ (v : ℕ). decimal (valueFrom v s)) value ∙ digits-after (c - byte "0") (omega (arith, l)) a ∙ ap (λ (ds : List ℕ). ds ++ s)
+        (digits-one (c - byte "0") (omega (arith, r)) ∙ ap (λ (x : ℕ). x ∷ []) own)
+    go (no n) =
+        let r = digit-range c h in
+        let e : c ≡ byte "0" = omega (arith, r, n) in
+        rw (z e, e) (digits-one 0 (omega arith))
+
+all-drop : (f : ℕ → Bool) (i : ℕ) {s : List ℕ} → All f s → All f (drop i s)
+all-drop f zero a = a
+all-drop f (suc i) none = none
+all-drop f (suc i) (more h a) = all-drop f i a
+
+pub digits-kept : (w : List ℕ) (i : ℕ) → AreDigits w → Unpadded w i → drop i w ≡ decimal (valueFrom 0 w)
+digits-kept w i d u =
+    let l = u .inside (d .begun) in
+    let e = drop-cons w i 0 l in
+    let all = rw (d .digits, take-length w) at (span-all isDigit w) in
+    sym (ap (λ (v : ℕ). decimal v) (sym (u .same)) ∙ go (rw e at (all-drop isDigit i all)) e (u .same))
+  where
+    go : All isDigit (getD w i 0 ∷ drop (suc i) w) → drop i w ≡ getD w i 0 ∷ drop (suc i) w → valueFrom 0 (drop i w) ≡ valueFrom 0 w
+        → decimal (valueFrom 0 (drop i w)) ≡ drop i w
+    go (more h a) e s = rw e (digits-own (getD w i 0) h a λ z. drop-of-length-le w (leading z))
+      where
+        leading : getD w i 0 ≡ byte "0" → length w ≤ suc i
+        leading z = go′ (decLt (i + 1) (length w))
+          where
+            go′ : Dec (i + 1 < length w) → length w ≤ suc i
+            go′ (yes h) = absurd (u .leading h z)
+            go′ (no n) = omega (arith, n)
+
+-- a zero before another digit leads
+pub unpadded-next : (w : List ℕ) (i : ℕ) → i < length w → getD w i 0 ≡ byte "0" → valueFrom 0 (drop i w) ≡ valueFrom 0 (drop (i + 1) w)
+unpadded-next w i h e = value-step w i 0 h ∙ rw e
 
 -- ---- exponents, as the machine has them: a signed local holds bits
 

@@ -97,11 +97,13 @@ among-keep f ks ls ts us e w h =
 -- ---- repeated names
 
 -- a name that is not repeated, and those after it
-pub fresh : (seen : List Token) (t : Token) (ts : List Token) → repeatsAfter seen (t ∷ ts) ≡ [] → (isAmong seen t ≡ false) × (repeatsAfter (seen ++ (t ∷ [])) ts ≡ [])
+pub fresh : (seen : List Token) (t : Token) (ts : List Token) → repeatsAfter seen (t ∷ ts) ≡ []
+    → (isAmong seen t ≡ false) × (repeatsAfter (seen ++ (t ∷ [])) ts ≡ [])
 unfolding repeatsAfter
 fresh seen t ts h = go (isAmong seen t) h
   where
-    go : (b : Bool) → cond b (t ∷ repeatsAfter (seen ++ (t ∷ [])) ts) (repeatsAfter (seen ++ (t ∷ [])) ts) ≡ [] → (b ≡ false) × (repeatsAfter (seen ++ (t ∷ [])) ts ≡ [])
+    go : (b : Bool) → cond b (t ∷ repeatsAfter (seen ++ (t ∷ [])) ts) (repeatsAfter (seen ++ (t ∷ [])) ts) ≡ []
+        → (b ≡ false) × (repeatsAfter (seen ++ (t ∷ [])) ts ≡ [])
     go true e = absurd (cons≢nil e)
     go false e = (refl, e)
 

@@ -46,7 +46,8 @@ has-plan list doc hs d a b = let x = plan-exists hs d (a .lawful) (b .lawful) in
 pub one-plan : (hs : List Header) (doc : List ℕ) (p q : Plan) → HasPlan hs doc p → HasPlan hs doc q → p ≡ q
 one-plan hs doc p q x y =
     let e : x .accepted .tokens ≡ y .accepted .tokens = cc (x .accepted .lexed, y .accepted .lexed) in
-    let t : x .tree ≡ y .tree = one-document maxBrackets maxBrackets (y .accepted .tokens) (x .tree) (y .tree) (rw e at (x .accepted .spelt)) (y .accepted .spelt) in
+    let t : x .tree ≡ y .tree = one-document maxBrackets maxBrackets (y .accepted .tokens) (x .tree) (y .tree) (rw e at (x .accepted .spelt))
+    (y .accepted .spelt) in
     cc (x .planned, y .planned, t)
 
 -- ---- the stages of canon
@@ -61,8 +62,10 @@ written-stages : (list doc : List ℕ) (hs : List Header) (p : Plan) → Accepte
     → written list doc (roomOf l) ≡ writingStages (documentPieces hs p) (length (l .out))
 unfolding written textStages
 written-stages list doc hs p a h l w₁ w₂ =
-    guarded-good (canonServes (roomOf l)) list doc (textStages list doc (length (l .out))) (rw (le-leb workWords (l .work₁) w₁, le-leb workWords (l .work₂) w₂)) (a .short) (h .accepted .short)
-    ∙ ap (λ (s : Stage Checked). andThen s (λ c. writingStages (layoutOf (c .headers) (c .document)) (length (l .out)))) (both-pass list doc hs a (h .tree) (h .accepted))
+    guarded-good (canonServes (roomOf l)) list doc (textStages list doc (length (l .out))) (rw (le-leb workWords (l .work₁) w₁, le-leb workWords (l .work₂) w₂))
+    (a .short) (h .accepted .short)
+    ∙ ap (λ (s : Stage Checked). andThen s (λ c. writingStages (layoutOf (c .headers) (c .document)) (length (l .out))))
+    (both-pass list doc hs a (h .tree) (h .accepted))
     ∙ ap (λ (ps : List Piece). writingStages ps (length (l .out))) (layout-is hs (h .tree) p (h .planned))
 
 writing-good : (ps : List Piece) (out : ℕ) → length (text ps) ≤ maxText → length ps ≤ maxTokens → length (text ps) ≤ out → writingStages ps out ≡ pass (text ps)
@@ -73,7 +76,8 @@ writing-good ps out b t o = rw (le-leb (length (text ps)) maxText b, le-leb (len
 writing-kept : (hs : List Header) (p : Plan) (out : ℕ) (bytes : List ℕ) → writingStages (documentPieces hs p) out ≡ pass bytes
     → Keeps hs p × (length (canonical hs p) ≤ out)
 unfolding writingStages canonical
-writing-kept hs p out bytes e = go (leb (length (canonical hs p)) maxText) (leb (length (documentPieces hs p)) maxTokens) (leb (length (canonical hs p)) out) refl refl refl e
+writing-kept hs p out bytes e =
+    go (leb (length (canonical hs p)) maxText) (leb (length (documentPieces hs p)) maxTokens) (leb (length (canonical hs p)) out) refl refl refl e
   where
     go : (a b c : Bool) → leb (length (canonical hs p)) maxText ≡ a → leb (length (documentPieces hs p)) maxTokens ≡ b → leb (length (canonical hs p)) out ≡ c
         → guard (a && b) (answer 25 0 0 0) (guard c (answer 26 0 0 (length (canonical hs p))) (pass (canonical hs p))) ≡ pass bytes
@@ -81,8 +85,10 @@ writing-kept hs p out bytes e = go (leb (length (canonical hs p)) maxText) (leb 
     go false b c x y z e = let q : _≡_ {A = ℕ} 0 1 = cc in absurd (omega arith)
     go true false c x y z e = let q : _≡_ {A = ℕ} 0 1 = cc in absurd (omega arith)
     go true true false x y z e = let q : _≡_ {A = ℕ} 0 1 = cc in absurd (omega arith)
-    go true true true x y z e =
-        (record { bytes = leb-true (length (canonical hs p)) maxText x; tokens = leb-true (length (documentPieces hs p)) maxTokens y }, leb-true (length (canonical hs p)) out z)
+    go true true true x y z e = (
+      record { bytes = leb-true (length (canonical hs p)) maxText x; tokens = leb-true (length (documentPieces hs p)) maxTokens y },
+      leb-true (length (canonical hs p)) out z,
+    )
 
 module _ (list : List ℕ) (hs : List Header) (fixed : AcceptedList list hs) where
   -- ---- demand 3
@@ -158,7 +164,10 @@ unfolding numbers canonAnswer written textStages checkAnswer checked
 refuses-as-check list doc l k s t n = rw (s, t) (go (leb (length list) maxText) (leb (length doc) maxText) (bothStages list doc) (rw t at n))
   where
     go : (a b : Bool) (x : Stage Checked) → (stageAnswer (guard a (answer 2 1 maxText 0) (guard b (answer 2 2 maxText 0) x)) callCount .code ≡ 0 → ⊥)
-        → stageAnswer (guard a (answer 2 1 maxText 0) (guard b (answer 2 2 maxText 0) (andThen x (λ c. writingStages (layoutOf (c .headers) (c .document)) (length (l .out)))))) length
+        → stageAnswer
+        (guard a (answer 2 1 maxText 0)
+        (guard b (answer 2 2 maxText 0) (andThen x (λ c. writingStages (layoutOf (c .headers) (c .document)) (length (l .out))))))
+        length
         ≡ stageAnswer (guard a (answer 2 1 maxText 0) (guard b (answer 2 2 maxText 0) x)) callCount
     go false b x n = refl
     go true false x n = refl
@@ -167,7 +176,8 @@ refuses-as-check list doc l k s t n = rw (s, t) (go (leb (length list) maxText) 
 
 -- What check accepts, canon refuses only where the canonical text does not keep the limits, with 25, or else where the output is shorter
 -- than it, with 26 and its length.
-module _ (list doc : List ℕ) (hs : List Header) (p : Plan) (fixed : AcceptedList list hs) (h : HasPlan hs doc p) (l : Lent) (w₁ : workWords ≤ l .work₁) (w₂ : workWords ≤ l .work₂) where
+module _ (list doc : List ℕ) (hs : List Header) (p : Plan) (fixed : AcceptedList list hs) (h : HasPlan hs doc p) (l : Lent) (w₁ : workWords ≤ l .work₁)
+    (w₂ : workWords ≤ l .work₂) where
   numbers-are : numbers list doc l ≡ stageAnswer (writingStages (documentPieces hs p) (length (l .out))) length
   unfolding numbers canonAnswer
   numbers-are = ap (λ (s : Stage (List ℕ)). stageAnswer s length) (written-stages list doc hs p fixed h l w₁ w₂)
@@ -177,10 +187,15 @@ module _ (list doc : List ℕ) (hs : List Header) (p : Plan) (fixed : AcceptedLi
   over-the-limits n = numbers-are ∙ go (leb (length (text (documentPieces hs p))) maxText) (leb (length (documentPieces hs p)) maxTokens) refl refl
     where
       go : (a b : Bool) → leb (length (text (documentPieces hs p))) maxText ≡ a → leb (length (documentPieces hs p)) maxTokens ≡ b
-          → stageAnswer (guard (a && b) (answer 25 0 0 0) (guard (leb (length (text (documentPieces hs p))) (length (l .out))) (answer 26 0 0 (length (text (documentPieces hs p)))) (pass (text (documentPieces hs p))))) length ≡ answer 25 0 0 0
+          → stageAnswer
+          (guard (a && b) (answer 25 0 0 0)
+          (guard (leb (length (text (documentPieces hs p))) (length (l .out))) (answer 26 0 0 (length (text (documentPieces hs p))))
+          (pass (text (documentPieces hs p)))))
+          length ≡ answer 25 0 0 0
       go false b e f = refl
       go true false e f = refl
-      go true true e f = absurd (n (record { bytes = leb-true (length (text (documentPieces hs p))) maxText e; tokens = leb-true (length (documentPieces hs p)) maxTokens f }))
+      go true true e f =
+          absurd (n (record { bytes = leb-true (length (text (documentPieces hs p))) maxText e; tokens = leb-true (length (documentPieces hs p)) maxTokens f }))
 
   pub over-the-output : Keeps hs p → length (l .out) < length (canonical hs p) → numbers list doc l ≡ answer Writing.shortOutput 0 0 (length (canonical hs p))
   unfolding writingStages canonical
@@ -198,7 +213,8 @@ pub canon-accepted : (list doc : List ℕ) (l : Lent) → numbers list doc l .co
 unfolding numbers canonAnswer written textStages has-plan
 canon-accepted list doc l e =
     let t = textStages list doc (length (l .out)) in
-    let x = answer-passed (guarded (canonServes (roomOf l)) list doc t) length (guarded-codes (canonServes (roomOf l)) list doc t (text-codes list doc (length (l .out)))) e in
+    let x = answer-passed (guarded (canonServes (roomOf l)) list doc t) length
+    (guarded-codes (canonServes (roomOf l)) list doc t (text-codes list doc (length (l .out)))) e in
     let y = guarded-passed (canonServes (roomOf l)) list doc t (x .0) (x .1) in
     go (bothStages list doc) refl (y .1 .0) (y .1 .1 .0) (x .0) (y .1 .1 .1)
   where
@@ -209,7 +225,8 @@ canon-accepted list doc l e =
     go (pass c) q a b bytes k =
         let v = both-passed list doc c a b q in
         let w = has-plan list doc (c .headers) (c .document) (v .0) (v .1) in
-        let u = writing-kept (c .headers) (w .0) (length (l .out)) bytes (sym (ap (λ (ps : List Piece). writingStages ps (length (l .out))) (layout-is (c .headers) (c .document) (w .0) (w .1 .planned))) ∙ k) in
+        let u = writing-kept (c .headers) (w .0) (length (l .out)) bytes
+        (sym (ap (λ (ps : List Piece). writingStages ps (length (l .out))) (layout-is (c .headers) (c .document) (w .0) (w .1 .planned))) ∙ k) in
         (c .headers, (w .0, (v .0, (w .1, u))))
 
 -- a refusal leaves the output as it was

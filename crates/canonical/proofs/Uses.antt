@@ -96,12 +96,14 @@ module _ (g : List ℕ → Bool) where
   named-none t v xs nil = refl
   named-none t v xs (cons h n) = simp (h, named-none t v xs n)
 
-  named-only : (t : Token) (v : Value) (xs : List Arg) {j : ℕ} {p : Param} {ps : List Param} → Only t j p ps → sizeNamed ps (named t v ∷ xs) ≤ size v + sizeNamed ps xs
+  named-only : (t : Token) (v : Value) (xs : List Arg) {j : ℕ} {p : Param} {ps : List Param} → Only t j p ps
+      → sizeNamed ps (named t v ∷ xs) ≤ size v + sizeNamed ps xs
   unfolding sizeNamed byName
   named-only t v xs (here h n) = simp (h, named-none t v xs n) (omega arith)
   named-only t v xs (there h o) = simp h (omega (arith, named-only t v xs o))
 
-  named-size : (t : Token) (v : Value) (xs : List Arg) (ps : List Param) → repeats (paramNames ps) ≡ [] → sizeNamed ps (named t v ∷ xs) ≤ size v + sizeNamed ps xs
+  named-size : (t : Token) (v : Value) (xs : List Arg) (ps : List Param) → repeats (paramNames ps) ≡ []
+      → sizeNamed ps (named t v ∷ xs) ≤ size v + sizeNamed ps xs
   named-size t v xs ps d = go (seek (ofName t) 0 ps) refl
     where
       go : (o : Option Indexed) → seek (ofName t) 0 ps ≡ o → sizeNamed ps (named t v ∷ xs) ≤ size v + sizeNamed ps xs

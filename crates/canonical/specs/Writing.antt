@@ -1,26 +1,25 @@
 -- What only the contracts of the writing code cite: what storing bytes from a place of the output on leaves there, how far the place
--- goes on, and that the pieces of a part were put. A place counts bytes and tokens no further than one beyond their limits; a byte
--- beyond the output is counted and not stored.
-use Prim.Native.Nat.{ℕ, suc, _-_, _<_, _≤_}
+-- goes on, and that the pieces of a part were put. A byte beyond the output is counted and not stored.
+use Prim.Native.Nat.{ℕ, suc, _+_, _-_, _<_, _≤_}
 use mathlib.Core.Path.{_≡_}
 use mathlib.Core.Bool.{Bool, true, false, cond, _&&_}
 use mathlib.Core.List.{List, [], _∷_, _++_}
 use mathlib.Core.Option.{Option, some}
 use mathlib.Core.Option.{none as nothing}
 use lib.Dec.{eqb, leb, ltb}
-use lib.ListN.{length, set}
-use Rattle.lexis.specs.Ascii.{ascii}
-use Rattle.lexis.specs.Bytes.{among}
+use lib.ListN.{length, set, take, drop, getD}
+use Rattle.lexis.specs.Ascii.{ascii, byte}
+use Rattle.lexis.specs.Bytes.{among, isDigit, spanLen, classTable}
 use Rattle.lexis.specs.Sizes.{maxText, maxTokens, maxNumber, maxBrackets}
 use Rattle.lexis.specs.Words.{sameBytes}
 use Rattle.lexis.specs.Kind as Kind
-use Rattle.lexis.specs.Number.{partsOf, inRange}
+use Rattle.lexis.specs.Number.{partsOf, valueFrom, inRange}
 use Rattle.lexis.specs.Lexer.{Token}
-use Rattle.lexis.specs.Symbol.{symOf, leftRound, rightRound}
+use Rattle.lexis.specs.Symbol.{symOf, leftRound, rightRound, leftSquare}
 use Rattle.syntax.specs.Tree.{Value, Values, Ty, Tys, Param, Arg}
 use Rattle.syntax.specs.Tree.Arg.{positional, named}
 use Rattle.syntax.specs.Grammar.{Leaves, names, both, Spells, Items}
-use Rattle.syntax.specs.Parser.{Parse, value}
+use Rattle.syntax.specs.Parser.{Parse, value, argument}
 use Rattle.syntax.specs.Parser.Parse.{ok, bad}
 use Rattle.syntax.specs.Inner.{lookahead}
 use Rattle.syntax.specs.Table.{kindAt, tokenAt, toks}
@@ -29,6 +28,8 @@ use Rattle.lexis.specs.declared.Answer.{Answer}
 use Rattle.lists.specs.Answer.{Stage, stageAnswer}
 use Rattle.canonical.specs.Answer.{outputAfter}
 use Rattle.lists.specs.Fitting.{stacked, IsBase, Columns, InArray}
+use Rattle.lists.specs.Lists.{Heads, NamePlaces}
+use Rattle.documents.specs.Stages.{BothPassed}
 use Rattle.canonical.specs.declared.place.Place.{Place}
 use Rattle.canonical.specs.declared.value.Put.{Put}
 use Rattle.canonical.specs.declared.argument.Bound.{Bound}
@@ -39,33 +40,39 @@ use Rattle.canonical.specs.Layout.{mark, piece, namePiece, pieces, items
 
 -- ---- bytes and tokens
 
--- one byte more
-unfoldable pub nextByte : ℕ → ℕ
-nextByte at = cond (leb at maxText) (suc at) at
+-- the last number of a word: what is counted stops there
+abbrev pub maxCount : ℕ
+maxCount = 18446744073709551615
 
+-- one more
+unfoldable pub oneMore : ℕ → ℕ
+oneMore n = cond (ltb n maxCount) (suc n) n
+
+-- one byte in its place
 unfoldable pub storeByte : List ℕ → ℕ → ℕ → List ℕ
 storeByte out at b = cond (ltb at (length out)) (set out at b) out
 
 -- all bytes of a list
 unfoldable pub passed : ℕ → List ℕ → ℕ
 passed at [] = at
-passed at (b ∷ bs) = passed (nextByte at) bs
+passed at (b ∷ bs) = passed (oneMore at) bs
 
 unfoldable pub stored : List ℕ → ℕ → List ℕ → List ℕ
 stored out at [] = out
-stored out at (b ∷ bs) = stored (storeByte out at b) (nextByte at) bs
+stored out at (b ∷ bs) = stored (storeByte out at b) (oneMore at) bs
 
--- one token more; a token for each piece
-unfoldable pub nextToken : ℕ → ℕ
-nextToken n = cond (leb n maxTokens) (suc n) n
-
+-- a token for each piece
 unfoldable pub tallied : ℕ → List Piece → ℕ
 tallied n [] = n
-tallied n (p ∷ ps) = tallied (nextToken n) ps
+tallied n (p ∷ ps) = tallied (oneMore n) ps
 
 -- where pieces end that begin at a place
 unfoldable pub placeAfter : Place → List Piece → Place
 placeAfter s ps = record { bytes = passed (s .bytes) (text ps); tokens = tallied (s .tokens) ps }
+
+-- a text that ends at this place keeps the byte and token limits
+abbrev pub keepsLimits : Place → Bool
+keepsLimits s = leb (s .bytes) maxText && leb (s .tokens) maxTokens
 
 -- The pieces of a part were put into the output, from one place to another: whatever follows them goes on from there.
 pub record Puts (part : List Piece → List Piece) (out out' : List ℕ) (s s' : Place) : Type 0 where
@@ -76,38 +83,74 @@ pub record Puts (part : List Piece → List Piece) (out out' : List ℕ) (s s' :
 abbrev pub PutsWord : List ℕ → List ℕ → List ℕ → Place → Place → Type 0
 PutsWord w out out' s s' = (k : ℕ) → Puts (λ r. piece k w ∷ r) out out' s s'
 
--- all of these pieces were put from the first byte on
-pub record PutsAll (ps : List Piece) (out out' : List ℕ) (s : Place) : Type 0 where
-  pub bytes : out' ≡ stored out 0 (text ps)
-  pub place : s ≡ placeAfter (record { bytes = 0; tokens = 0 }) ps
+-- The pieces of a part were put, or the writing was left at a place beyond the limits, where whatever text has these pieces is beyond them.
+pub data PutsWithin (part : List Piece → List Piece) (out out' : List ℕ) (s s' : Place) : Type 0 where
+  put : Puts part out out' s s' → PutsWithin part out out' s s'
+  over : keepsLimits s' ≡ false → ((r : List Piece) → keepsLimits (placeAfter s (part r)) ≡ false) → PutsWithin part out out' s s'
+
+-- where the first byte is put
+abbrev pub start : Place
+start = record { bytes = 0; tokens = 0 }
+
+-- all of these pieces were put from the first byte on, or the writing was left beyond the limits, where they are
+pub data PutsAll (ps : List Piece) (out out' : List ℕ) (s : Place) : Type 0 where
+  all-put : out' ≡ stored out 0 (text ps) → s ≡ placeAfter start ps → PutsAll ps out out' s
+  left-over : keepsLimits s ≡ false → keepsLimits (placeAfter start ps) ≡ false → PutsAll ps out out' s
+
+-- ---- digits
+
+-- the digits w from place i on spell the number that all of them spell, and no zero leads them but a last digit
+pub record Unpadded (w : List ℕ) (i : ℕ) : Type 0 where
+  pub within : i ≤ length w
+  pub inside : 0 < length w → i < length w
+  pub same : valueFrom 0 (drop i w) ≡ valueFrom 0 w
+  pub leading : i + 1 < length w → getD w i 0 ≡ byte "0" → ⊥
+
+-- one digit or more, and nothing else
+pub record AreDigits (w : List ℕ) : Type 0 where
+  pub begun : 0 < length w
+  pub digits : spanLen isDigit w ≡ length w
 
 -- ---- values
 
--- every number of a table is in range and not too long, as the lexer has it
-pub record Ranged (text table : List ℕ) (n : ℕ) : Type 0 where
-  pub within : (i : ℕ) → i < n → isNumber (kindAt table i) ≡ true
-      → (inRange (tokenAt text table i .bytes) (partsOf (tokenAt text table i .bytes)) ≡ true) × (length (tokenAt text table i .bytes) ≤ maxNumber)
+-- a token of kind k and bytes w is as the lexer has it: a number is in range and not too long, and a whole one has digits alone
+pub record Lexed (k : ℕ) (w : List ℕ) : Type 0 where
+  pub number : isNumber k ≡ true → (inRange w (partsOf w) ≡ true) × (length w ≤ maxNumber)
+  pub whole : k ≡ Kind.whole → AreDigits w
+
+-- the class table is at hand, and every token of a table is as the lexer has it
+pub record Ranged (classes text table : List ℕ) (n : ℕ) : Type 0 where
+  pub classed : classes ≡ classTable
+  pub within : (i : ℕ) → i < n → Lexed (kindAt table i) (tokenAt text table i .bytes)
 
 -- the value of a leaf at a type
 abbrev pub leafAt : Ty → Token → Option Val
 leafAt u t = cond (eqb (t .kind) Kind.name) (nameAt u (t .bytes)) (literalAt u (t .kind) (t .bytes))
 
+-- these tokens begin with an opening bracket, square or round, of terminal c
+pub record Opens (ts : List Token) (c : ℕ) : Type 0 where
+  pub seen : c ≡ lookahead ts
+  pub bracket : (c ≡ leftSquare → ⊥) → c ≡ leftRound
+
 -- the value at place i, read at the base that begins ts under k pairs, was put; it ends before place r .next
 abbrev pub PutsValue : List ℕ → List ℕ → ℕ → ℕ → List Token → ℕ → List ℕ → List ℕ → Place → Put → Type 0
 PutsValue text table n i ts k out out' s r =
-    (m : Leaves) (b : ℕ) (v : Value) (us : List Token) (c : ℕ) (u : Ty) (ws : List Token) (w : Val) → Spells m b (toks text table n i) v us → IsBase c ts u ws → readAt v (stacked k u) ≡ some w
+    (m : Leaves) (b : ℕ) (v : Value) (us : List Token) (c : ℕ) (u : Ty) (ws : List Token) (w : Val) → Spells m b (toks text table n i) v us → IsBase c ts u ws
+    → readAt v (stacked k u) ≡ some w
     → Puts (pieces w) out out' s (r .place) × (us ≡ toks text table n (r .next))
 
 -- the items of an array from place i on, and its closing bracket
 abbrev pub PutsArray : List ℕ → List ℕ → ℕ → ℕ → List Token → ℕ → List ℕ → List ℕ → Place → Put → Type 0
 PutsArray text table n i ts k out out' s r =
-    (m : Leaves) (b : ℕ) (vs : Values) (us : List Token) (c : ℕ) (u : Ty) (xs : List Token) (ws : Vals) → InArray m b (toks text table n i) vs us → IsBase c ts u xs → readAll vs (stacked k u) ≡ some ws
+    (m : Leaves) (b : ℕ) (vs : Values) (us : List Token) (c : ℕ) (u : Ty) (xs : List Token) (ws : Vals) → InArray m b (toks text table n i) vs us
+    → IsBase c ts u xs → readAll vs (stacked k u) ≡ some ws
     → Puts (λ r. items ws (mark (ascii "]") ∷ r)) out out' s (r .place) × (us ≡ toks text table n (r .next))
 
 -- the items of a tuple from place i on, and its closing bracket
 abbrev pub PutsTuple : List ℕ → List ℕ → ℕ → ℕ → List Token → List ℕ → List ℕ → Place → Put → Type 0
 PutsTuple text table n i ts out out' s r =
-    (m : Leaves) (b : ℕ) (vs : Values) (us : List Token) (c : ℕ) (cs : Tys) (xs : List Token) (ws : Vals) → Items m rightRound b (toks text table n i) vs us → Columns 0 c ts cs xs → readEach vs cs ≡ some ws
+    (m : Leaves) (b : ℕ) (vs : Values) (us : List Token) (c : ℕ) (cs : Tys) (xs : List Token) (ws : Vals) → Items m rightRound b (toks text table n i) vs us
+    → Columns 0 c ts cs xs → readEach vs cs ≡ some ws
     → Puts (λ r. items ws (mark (ascii ")") ∷ r)) out out' s (r .place) × (us ≡ toks text table n (r .next))
 
 -- ---- patterns
@@ -142,6 +185,12 @@ pub data Finds (text table : List ℕ) (n : ℕ) : Option Value → Bound → Ty
   there : {v : Value} {i : ℕ} {us : List Token} → i ≤ n → value both maxBrackets (toks text table n i) ≡ ok v us → Finds text table n (some v) (At i)
   nowhere : Finds text table n nothing Missing
 
+-- the words are the places of these arguments, in their order
+pub data Starts (text table : List ℕ) (n : ℕ) : List ℕ → List Arg → Type 0 where
+  no-start : Starts text table n [] []
+  a-start : {i : ℕ} {is : List ℕ} {x : Arg} {xs : List Arg} {us : List Token} → argument maxBrackets (toks text table n i) ≡ ok x us → Starts text table n is xs
+      → Starts text table n (i ∷ is) (x ∷ xs)
+
 -- ---- canon
 
 -- the answer and the output after these stages
@@ -154,3 +203,17 @@ pub record Wrote (s : Stage (List ℕ)) (out out' : List ℕ) (r : Answer) : Typ
 -- a number in decimal and one byte after it
 abbrev pub numberThen : ℕ → ℕ → List ℕ
 numberThen n b = decimal n ++ (b ∷ [])
+
+-- ---- both texts
+
+-- both texts have passed their stages
+pub record TextsPassed (list doc work₁ work₂ : List ℕ) (n k m : ℕ) : Type 0 where
+  pub index : List ℕ
+  pub words : List ℕ
+  pub both : BothPassed list doc work₁ work₂ index words n k m
+
+-- and the places of the names of the list's operations are in front of `names`
+pub record TextsNamed (list doc work₁ work₂ names : List ℕ) (n k m : ℕ) : Type 0 where
+  pub passed : TextsPassed list doc work₁ work₂ n k m
+  pub places : NamePlaces n (take k names)
+  pub heads : Heads list work₁ n maxBrackets (take k names) (passed .both .first .headers)

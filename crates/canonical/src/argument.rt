@@ -1,8 +1,8 @@
 // The arguments of a call, each with its parameter's name, in declared order. The call stands in the document's table, the parameters
 // of its operation in the list's.
 use crate::place::Place;
+use crate::place::put_mark;
 use crate::place::put_token;
-use crate::place::put_word;
 use crate::value::put_value;
 use documents::parameter::Next;
 use documents::parameter::next_item;
@@ -17,8 +17,9 @@ use syntax::types::type_at;
 ghost use mathlib.Core.Path.{_≡_};
 ghost use mathlib.Core.List.{List, [], _∷_};
 ghost use mathlib.Core.Option.{some};
-ghost use Prim.Native.Nat.{_<_};
-ghost use Rattle.lexis.specs.Sizes.{maxBrackets};
+ghost use Prim.Native.Nat.{_<_, _≤_};
+ghost use lib.ListN.{length, take};
+ghost use Rattle.lexis.specs.Sizes.{maxBrackets, maxTokens};
 ghost use Rattle.lexis.specs.Lexer.{Token};
 ghost use Rattle.lexis.specs.Symbol.{rightRound};
 ghost use Rattle.syntax.specs.Tree.{Value, Param, Arg};
@@ -30,7 +31,7 @@ ghost use Rattle.documents.specs.Binding.{misplaced, slots};
 ghost use Rattle.canonical.specs.Plan.{valueFor, valuesFor};
 ghost use Rattle.canonical.specs.Layout.{pieces, argumentsPieces};
 ghost use Rattle.canonical.specs.Layout.{argumentPieces};
-ghost use Rattle.canonical.specs.Writing.{Puts, Ranged, argumentFor, Finds};
+ghost use Rattle.canonical.specs.Writing.{Puts, Ranged, argumentFor, Finds, Starts};
 
 // The place of the value that is bound to a parameter, or none.
 pub enum Bound {
@@ -54,7 +55,9 @@ fn bound_here(
     requires { ⌜ Holds (now dtext) (now dtable) dn ⌝ }
     requires { ⌜ Holds (now ltext) (now ltable) ln ⌝ }
     requires { ⌜ p < ln ⌝ }
-    ensures { λ r. ⌜ ((x : Arg) (us : List Token) (q : Param) (ws : List Token) → argument maxBrackets (toks (now (dtext .entry)) (now (dtable .entry)) dn i) ≡ ok x us → param maxBrackets (toks (now (ltext .entry)) (now (ltable .entry)) ln p) ≡ ok q ws →
+    ensures { λ r. ⌜
+        ((x : Arg) (us : List Token) (q : Param) (ws : List Token) → argument maxBrackets (toks (now (dtext .entry)) (now (dtable .entry)) dn i) ≡ ok x us
+        → param maxBrackets (toks (now (ltext .entry)) (now (ltable .entry)) ln p) ≡ ok q ws →
         Finds (now (dtext .entry)) (now (dtable .entry)) dn (argumentFor j k q (x ∷ [])) r) ⌝ }
 {
     if is_label(dtext, dtable, dn, i) {
@@ -69,12 +72,48 @@ fn bound_here(
     Bound::Missing
 }
 
-// The value that is bound to the parameter number k, whose name stands at place p, by the arguments from place `args` on.
-fn find(
+// A place as it is stored.
+fn wide(x: u16) -> usize
+    ensures { λ r. ⌜ r ≡ x ⌝ }
+{
+    x as usize
+}
+
+// Stores the places of the arguments from place `args` on, one after the other, and gives how many there are.
+pub fn list_arguments(
+    starts: &mut [u16],
     dtext: &[u8],
     dtable: &[u32],
     dn: usize,
     args: usize,
+) -> usize
+    requires { ⌜ Holds (now dtext) (now dtable) dn ⌝ }
+    requires { ⌜ (dn ≤ maxTokens) × (maxTokens ≤ length (now starts)) ⌝ }
+    ensures range { λ r. ⌜ r ≤ maxTokens ⌝ }
+    ensures meaning { λ r. ⌜ ((xs : List Arg) (us : List Token) →
+        row plain (commas rightRound) (argument maxBrackets) (toks (now (dtext .entry)) (now (dtable .entry)) dn args) ≡ ok xs us →
+        Starts (now (dtext .entry)) (now (dtable .entry)) dn (take r (now (starts .exit))) xs) ⌝ }
+{
+    let mut i = args;
+    let mut j = 0;
+    while i < dn {
+        starts[j] = i as u16;
+        j += 1;
+        let next = next_item(dtext, dtable, dn, i, Item::Argument);
+        let Next::Item(after) = next else {
+            return j;
+        };
+        i = after;
+    }
+    j
+}
+
+// The value that is bound to the parameter number k, whose name stands at place p, by the arguments at these places.
+fn find(
+    starts: &[u16],
+    dtext: &[u8],
+    dtable: &[u32],
+    dn: usize,
     ltext: &[u8],
     ltable: &[u32],
     ln: usize,
@@ -84,31 +123,37 @@ fn find(
     requires { ⌜ Holds (now dtext) (now dtable) dn ⌝ }
     requires { ⌜ Holds (now ltext) (now ltable) ln ⌝ }
     requires { ⌜ p < ln ⌝ }
-    ensures { λ r. ⌜ ((xs : List Arg) (us : List Token) (q : Param) (ws : List Token) → row plain (commas rightRound) (argument maxBrackets) (toks (now (dtext .entry)) (now (dtable .entry)) dn args) ≡ ok xs us →
+    ensures { λ r. ⌜ ((xs : List Arg) (q : Param) (ws : List Token) → Starts (now (dtext .entry)) (now (dtable .entry)) dn (now (starts .entry)) xs →
         param maxBrackets (toks (now (ltext .entry)) (now (ltable .entry)) ln p) ≡ ok q ws → Finds (now (dtext .entry)) (now (dtable .entry)) dn (argumentFor 0 k q xs) r) ⌝ }
 {
-    let mut i = args;
     let mut j = 0;
-    loop {
+    while j < starts.len() {
+        let i = wide(starts[j]);
         let here = bound_here(dtext, dtable, dn, i, j, ltext, ltable, ln, p, k);
         let Bound::Missing = here else {
             return here;
         };
-        let next = next_item(dtext, dtable, dn, i, Item::Argument);
-        let Next::Item(after) = next else {
-            return Bound::Missing;
-        };
-        i = after;
         j += 1;
     }
+    Bound::Missing
 }
 
 // Puts the default of the parameter at place p.
-fn put_default(out: &mut [u8], s: Place, text: &[u8], table: &[u32], n: usize, p: usize) -> Place
+fn put_default(
+    out: &mut [u8],
+    s: Place,
+    classes: &[u8; 256],
+    text: &[u8],
+    table: &[u32],
+    n: usize,
+    p: usize,
+) -> Place
     requires { ⌜ Holds (now text) (now table) n ⌝ }
-    requires { ⌜ Ranged (now text) (now table) n ⌝ }
+    requires { ⌜ Ranged (now classes) (now text) (now table) n ⌝ }
     requires { ⌜ p < n ⌝ }
-    ensures { λ r. ⌜ ((q : Param) (ws : List Token) (v : Value) (w : Val) → param maxBrackets (toks (now (text .entry)) (now (table .entry)) n p) ≡ ok q ws → q .default ≡ some v → readAt v (q .ty) ≡ some w →
+    ensures { λ r. ⌜
+        ((q : Param) (ws : List Token) (v : Value) (w : Val) → param maxBrackets (toks (now (text .entry)) (now (table .entry)) n p) ≡ ok q ws
+        → q .default ≡ some v → readAt v (q .ty) ≡ some w →
         Puts (pieces w) (now (out .entry)) (now (out .exit)) s r) ⌝ }
 {
     let typed = type_at(text, table, n, p + 2, Limits::BRACKETS);
@@ -118,17 +163,30 @@ fn put_default(out: &mut [u8], s: Place, text: &[u8], table: &[u32], n: usize, p
     if symbol_at(text, table, n, end) != Symbol::EQUAL {
         return s;
     }
-    put_value(out, s, text, table, n, end + 1, text, table, n, p + 2)
+    put_value(
+        out,
+        s,
+        classes,
+        text,
+        table,
+        n,
+        end + 1,
+        text,
+        table,
+        n,
+        p + 2,
+    )
 }
 
 // Puts the argument of the parameter number k, which stands at place p.
 fn put_argument(
     out: &mut [u8],
     s: Place,
+    classes: &[u8; 256],
+    starts: &[u16],
     dtext: &[u8],
     dtable: &[u32],
     dn: usize,
-    args: usize,
     ltext: &[u8],
     ltable: &[u32],
     ln: usize,
@@ -136,44 +194,58 @@ fn put_argument(
     k: usize,
 ) -> Place
     requires { ⌜ Holds (now dtext) (now dtable) dn ⌝ }
-    requires { ⌜ Ranged (now dtext) (now dtable) dn ⌝ }
+    requires { ⌜ Ranged (now classes) (now dtext) (now dtable) dn ⌝ }
     requires { ⌜ Holds (now ltext) (now ltable) ln ⌝ }
-    requires { ⌜ Ranged (now ltext) (now ltable) ln ⌝ }
+    requires { ⌜ Ranged (now classes) (now ltext) (now ltable) ln ⌝ }
     requires { ⌜ p < ln ⌝ }
-    ensures { λ r. ⌜ ((xs : List Arg) (us : List Token) (q : Param) (ws : List Token) (w : Val) → row plain (commas rightRound) (argument maxBrackets) (toks (now (dtext .entry)) (now (dtable .entry)) dn args) ≡ ok xs us →
+    ensures { λ r. ⌜ ((xs : List Arg) (q : Param) (ws : List Token) (w : Val) → Starts (now (dtext .entry)) (now (dtable .entry)) dn (now (starts .entry)) xs →
         param maxBrackets (toks (now (ltext .entry)) (now (ltable .entry)) ln p) ≡ ok q ws → valueFor (record { param = q; value = argumentFor 0 k q xs }) ≡ some w →
         Puts (argumentPieces q w) (now (out .entry)) (now (out .exit)) s r) ⌝ }
 {
     let name = put_token(&mut *out, s, ltext, ltable, ln, p);
-    let equal = put_word(&mut *out, name, b"=");
-    let found = find(dtext, dtable, dn, args, ltext, ltable, ln, p, k);
+    let equal = put_mark(&mut *out, name, b'=');
+    let found = find(starts, dtext, dtable, dn, ltext, ltable, ln, p, k);
     let Bound::At(v) = found else {
-        return put_default(out, equal, ltext, ltable, ln, p);
+        return put_default(out, equal, classes, ltext, ltable, ln, p);
     };
     if dn < v {
         return equal;
     }
-    put_value(out, equal, dtext, dtable, dn, v, ltext, ltable, ln, p + 2)
+    put_value(
+        out,
+        equal,
+        classes,
+        dtext,
+        dtable,
+        dn,
+        v,
+        ltext,
+        ltable,
+        ln,
+        p + 2,
+    )
 }
 
-// Puts the arguments of a call, which stand from place `args` on, for all parameters from place `params` on.
+// Puts the arguments of a call, which stand at these places, for all parameters from place `params` on.
 pub fn put_arguments(
     out: &mut [u8],
     s: Place,
+    classes: &[u8; 256],
+    starts: &[u16],
     dtext: &[u8],
     dtable: &[u32],
     dn: usize,
-    args: usize,
     ltext: &[u8],
     ltable: &[u32],
     ln: usize,
     params: usize,
 ) -> Place
     requires { ⌜ Holds (now dtext) (now dtable) dn ⌝ }
-    requires { ⌜ Ranged (now dtext) (now dtable) dn ⌝ }
+    requires { ⌜ Ranged (now classes) (now dtext) (now dtable) dn ⌝ }
     requires { ⌜ Holds (now ltext) (now ltable) ln ⌝ }
-    requires { ⌜ Ranged (now ltext) (now ltable) ln ⌝ }
-    ensures { λ r. ⌜ ((xs : List Arg) (us : List Token) (ps : List Param) (ws : List Token) (vs : List Val) → row plain (commas rightRound) (argument maxBrackets) (toks (now (dtext .entry)) (now (dtable .entry)) dn args) ≡ ok xs us →
+    requires { ⌜ Ranged (now classes) (now ltext) (now ltable) ln ⌝ }
+    ensures { λ r. ⌜ ((xs : List Arg) (ps : List Param) (ws : List Token) (vs : List Val) →
+        Starts (now (dtext .entry)) (now (dtable .entry)) dn (now (starts .entry)) xs →
         row plain (commas rightRound) (param maxBrackets) (toks (now (ltext .entry)) (now (ltable .entry)) ln params) ≡ ok ps ws → misplaced ps xs ≡ [] → valuesFor (slots ps xs) ≡ some vs →
         Puts (argumentsPieces ps vs) (now (out .entry)) (now (out .exit)) s r) ⌝ }
 {
@@ -184,10 +256,11 @@ pub fn put_arguments(
         place = put_argument(
             &mut *out,
             place,
+            classes,
+            starts,
             dtext,
             dtable,
             dn,
-            args,
             ltext,
             ltable,
             ln,
@@ -198,7 +271,7 @@ pub fn put_arguments(
         let Next::Item(after) = next else {
             return place;
         };
-        place = put_word(&mut *out, place, b",");
+        place = put_mark(&mut *out, place, b',');
         p = after;
         k += 1;
     }

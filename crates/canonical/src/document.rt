@@ -2,22 +2,25 @@
 use crate::call::put_calls;
 use crate::pattern::put_names;
 use crate::place::Place;
+use crate::place::put_mark;
 use crate::place::put_spaced;
 use crate::place::put_token;
 use crate::place::put_word;
 use documents::graph::graph_at;
+use lexis::limits::Limits;
 ghost use mathlib.Core.Path.{_≡_};
 ghost use mathlib.Core.List.{List, [], _∷_};
 ghost use mathlib.Core.Option.{some};
+ghost use Prim.Native.Nat.{_≤_};
 ghost use Rattle.lexis.specs.Ascii.{ascii};
 ghost use Rattle.lexis.specs.Kind as Kind;
 ghost use Rattle.lexis.specs.Lexer.{Token};
-ghost use Rattle.lexis.specs.Sizes.{maxBrackets};
+ghost use Rattle.lexis.specs.Sizes.{maxBrackets, maxTokens};
 ghost use Rattle.lexis.specs.Symbol.{aName as nameSymbol, rightRound};
 ghost use Rattle.syntax.specs.Tree.{Header, Document};
 ghost use Rattle.syntax.specs.Parser.{expect, row, plain, commas, parseDocument};
 ghost use Rattle.syntax.specs.Parser.Parse.{ok};
-ghost use Rattle.syntax.specs.Table.{tokenAt, toks, Holds};
+ghost use Rattle.syntax.specs.Table.{toks, Holds};
 ghost use Rattle.lists.specs.Lists.{Heads, NamePlaces};
 ghost use Rattle.documents.specs.DocumentRules.{documentFaults};
 ghost use Rattle.canonical.specs.Plan.{Plan, planOf, spellings};
@@ -27,7 +30,12 @@ ghost use Rattle.canonical.specs.Writing.{Puts, Ranged, PutsAll};
 // Puts the version, the word `graph`, the graph's name and an opening bracket.
 fn put_title(out: &mut [u8], s: Place, text: &[u8], table: &[u32], n: usize) -> Place
     requires { ⌜ Holds (now text) (now table) n ⌝ }
-    ensures { λ r. ⌜ ((d : Document) → parseDocument (toks (now (text .entry)) (now (table .entry)) n 0) ≡ ok d [] → Puts (λ q. spaced Kind.keyword (ascii "version") ∷ lined Kind.real (ascii "1.0") ∷ spaced Kind.keyword (ascii "graph") ∷ namePiece (d .graph .bytes) ∷ mark (ascii "(") ∷ q) (now (out .entry)) (now (out .exit)) s r) ⌝ }
+    ensures { λ r. ⌜
+        ((d : Document) → parseDocument (toks (now (text .entry)) (now (table .entry)) n 0) ≡ ok d []
+        → Puts
+        (λ q. spaced Kind.keyword (ascii "version") ∷ lined Kind.real (ascii "1.0") ∷ spaced Kind.keyword (ascii "graph") ∷ namePiece (d .graph .bytes)
+        ∷ mark (ascii "(") ∷ q) (now (out .entry)) (now (out .exit)) s r)
+        ⌝ }
 {
     if n <= 3 {
         return s;
@@ -36,16 +44,16 @@ fn put_title(out: &mut [u8], s: Place, text: &[u8], table: &[u32], n: usize) -> 
     let literal = put_spaced(&mut *out, version, b"1.0", 10);
     let word = put_spaced(&mut *out, literal, b"graph", 32);
     let name = put_token(&mut *out, word, text, table, n, 3);
-    put_word(out, name, b"(")
+    put_mark(out, name, b'(')
 }
 
 // Puts what stands between the inputs and the outputs of a graph.
 fn put_arrow(out: &mut [u8], s: Place) -> Place
     ensures { λ r. ⌜ Puts (λ q. mark (ascii ")") ∷ mark (ascii "->") ∷ mark (ascii "(") ∷ q) (now (out .entry)) (now (out .exit)) s r ⌝ }
 {
-    let close = put_word(&mut *out, s, b")");
+    let close = put_mark(&mut *out, s, b')');
     let arrow = put_word(&mut *out, close, b"->");
-    put_word(out, arrow, b"(")
+    put_mark(out, arrow, b'(')
 }
 
 // Puts everything of a document before its calls; its outputs stand from place `outputs` on.
@@ -72,9 +80,10 @@ fn put_header(
     put_spaced(out, close, b"{", 10)
 }
 
-// Puts the canonical text of a document that has passed its stages, from the first byte on.
+// Puts the canonical text of a document that has passed its stages, from the first byte on, or what of it passes the limits.
 pub fn put_document(
     out: &mut [u8],
+    classes: &[u8; 256],
     ltext: &[u8],
     ltable: &[u32],
     ln: usize,
@@ -84,11 +93,14 @@ pub fn put_document(
     dn: usize,
 ) -> Place
     requires { ⌜ Holds (now ltext) (now ltable) ln ⌝ }
-    requires { ⌜ Ranged (now ltext) (now ltable) ln ⌝ }
+    requires { ⌜ Ranged (now classes) (now ltext) (now ltable) ln ⌝ }
     requires { ⌜ NamePlaces ln (now names) ⌝ }
     requires { ⌜ Holds (now dtext) (now dtable) dn ⌝ }
-    requires { ⌜ Ranged (now dtext) (now dtable) dn ⌝ }
-    ensures { λ r. ⌜ ((hs : List Header) (d : Document) (p : Plan) → Heads (now (ltext .entry)) (now (ltable .entry)) ln maxBrackets (now (names .entry)) hs → parseDocument (toks (now (dtext .entry)) (now (dtable .entry)) dn 0) ≡ ok d [] →
+    requires { ⌜ Ranged (now classes) (now dtext) (now dtable) dn ⌝ }
+    requires { ⌜ dn ≤ maxTokens ⌝ }
+    ensures { λ r. ⌜
+        ((hs : List Header) (d : Document) (p : Plan) → Heads (now (ltext .entry)) (now (ltable .entry)) ln maxBrackets (now (names .entry)) hs
+        → parseDocument (toks (now (dtext .entry)) (now (dtable .entry)) dn 0) ≡ ok d [] →
         documentFaults hs d ≡ [] → planOf hs d ≡ some p → PutsAll (documentPieces hs p) (now (out .entry)) (now (out .exit)) r) ⌝ }
 {
     let graph = graph_at(dtext, dtable, dn);
@@ -97,9 +109,12 @@ pub fn put_document(
         tokens: 0,
     };
     let header = put_header(&mut *out, start, dtext, dtable, dn, graph.outputs);
+    let mut starts = [0u16; Limits::TOKENS];
     let calls = put_calls(
         &mut *out,
         header,
+        classes,
+        &mut starts,
         ltext,
         ltable,
         ln,

@@ -13,12 +13,17 @@ mod writer;
 use code::Code;
 use document::put_document;
 use documents::check::long_text;
+use documents::records::Records;
 use documents::stages::Staged;
 use documents::stages::both_stages;
 use lexis::Answer;
+use lexis::class::CLASSES;
 use lexis::limits::Limits;
 use lists::clear;
-use place::Place;
+use lists::directory::Room;
+use lists::operation::directory;
+use place::keeps_limits;
+use place::put_bytes;
 ghost use mathlib.Core.Path.{_≡_};
 ghost use mathlib.Core.Bool.{_&&_};
 ghost use Prim.Native.Nat.{_≤_};
@@ -27,9 +32,13 @@ ghost use lib.ListN.{length};
 ghost use Rattle.lexis.specs.Answer.{answer};
 ghost use Rattle.lexis.specs.Sizes.{maxText, maxTokens, workWords};
 ghost use Rattle.lists.specs.Answer.{workAfter};
-ghost use Rattle.documents.specs.Stages.{BothPassed};
 ghost use Rattle.canonical.specs.Answer.{textStages, canonRoom, written, canonAnswer, outputAfter};
-ghost use Rattle.canonical.specs.Writing.{Wrote};
+ghost use Rattle.canonical.specs.Writing.{Wrote, TextsPassed, TextsNamed};
+
+// The bytes of a document whose canonical text goes into a short buffer, and the bytes of that buffer.
+const SHORT_TEXT: usize = 512;
+
+const SHORT_BUFFER: usize = 2048;
 
 // Whether both work areas have the room that is asked.
 fn rooms_serve(work1: usize, work2: usize) -> bool
@@ -39,16 +48,6 @@ fn rooms_serve(work1: usize, work2: usize) -> bool
         return false;
     }
     Limits::work_serves(work2)
-}
-
-// Whether a text that ends at this place keeps the byte and token limits.
-fn keeps_limits(size: Place) -> bool
-    ensures { λ r. ⌜ r ≡ (leb (size .bytes) maxText && leb (size .tokens) maxTokens) ⌝ }
-{
-    if !Limits::text_fits(size.bytes) {
-        return false;
-    }
-    Limits::tokens_fit(size.tokens)
 }
 
 // An answer that names no text.
@@ -63,8 +62,10 @@ fn no_text(code: u32, detail: u32) -> Answer
     }
 }
 
-// Measures the canonical text of a document that has passed its stages, and writes it if it keeps the limits and the output holds it.
-fn write(
+// Puts the canonical text of a document that has passed its stages into a buffer, and copies it into the output if it keeps the limits and the
+// output holds it. A text that is longer than the buffer is put again, into the output.
+fn write_by(
+    buffer: &mut [u8],
     list: &[u8],
     work1: &[u32],
     n: usize,
@@ -75,21 +76,99 @@ fn write(
     m: usize,
     out: &mut [u8],
 ) -> Answer
-    requires { ⌜ BothPassed (now list) (now doc) (now work1) (now work2) (now names) n k m ⌝ }
+    requires { ⌜ TextsNamed (now list) (now doc) (now work1) (now work2) (now names) n k m ⌝ }
     requires { ⌜ maxTokens ≤ length (now names) ⌝ }
     ensures { λ r. ⌜ Wrote (textStages (now (list .entry)) (now (doc .entry)) (length (now (out .entry)))) (now (out .entry)) (now (out .exit)) r ⌝ }
 {
+    let classes = CLASSES;
     let directory = &names[0..k];
-    let size = put_document(&mut out[0..0], list, work1, n, directory, doc, work2, m);
+    let size = put_document(
+        &mut *buffer,
+        &classes,
+        list,
+        work1,
+        n,
+        directory,
+        doc,
+        work2,
+        m,
+    );
     if !keeps_limits(size) {
         return no_text(Code::OVER_LIMITS, 0);
     }
-    let detail = size.bytes as u32;
-    if out.len() < size.bytes {
+    let end = size.bytes;
+    let detail = end as u32;
+    if out.len() < end {
         return no_text(Code::SHORT_OUTPUT, detail);
     }
-    put_document(out, list, work1, n, directory, doc, work2, m);
+    if buffer.len() < end {
+        put_document(out, &classes, list, work1, n, directory, doc, work2, m);
+        return no_text(lexis::code::Code::ACCEPTED, detail);
+    }
+    put_bytes(out, 0, &buffer[0..end]);
     no_text(lexis::code::Code::ACCEPTED, detail)
+}
+
+// The same by way of a buffer that is soon cleared.
+fn write_short(
+    list: &[u8],
+    work1: &[u32],
+    n: usize,
+    names: &[u32],
+    k: usize,
+    doc: &[u8],
+    work2: &[u32],
+    m: usize,
+    out: &mut [u8],
+) -> Answer
+    requires { ⌜ TextsNamed (now list) (now doc) (now work1) (now work2) (now names) n k m ⌝ }
+    requires { ⌜ maxTokens ≤ length (now names) ⌝ }
+    ensures { λ r. ⌜ Wrote (textStages (now (list .entry)) (now (doc .entry)) (length (now (out .entry)))) (now (out .entry)) (now (out .exit)) r ⌝ }
+{
+    let mut buffer = [0u8; SHORT_BUFFER];
+    write_by(&mut buffer, list, work1, n, names, k, doc, work2, m, out)
+}
+
+// The same by way of a buffer that holds every text within the limits.
+fn write_long(
+    list: &[u8],
+    work1: &[u32],
+    n: usize,
+    names: &[u32],
+    k: usize,
+    doc: &[u8],
+    work2: &[u32],
+    m: usize,
+    out: &mut [u8],
+) -> Answer
+    requires { ⌜ TextsNamed (now list) (now doc) (now work1) (now work2) (now names) n k m ⌝ }
+    requires { ⌜ maxTokens ≤ length (now names) ⌝ }
+    ensures { λ r. ⌜ Wrote (textStages (now (list .entry)) (now (doc .entry)) (length (now (out .entry)))) (now (out .entry)) (now (out .exit)) r ⌝ }
+{
+    let mut buffer = [0u8; Limits::TEXT];
+    write_by(&mut buffer, list, work1, n, names, k, doc, work2, m, out)
+}
+
+// The canonical text of a document that has passed its stages. Short texts take the short buffer.
+fn write(
+    list: &[u8],
+    work1: &[u32],
+    n: usize,
+    k: usize,
+    doc: &[u8],
+    work2: &[u32],
+    m: usize,
+    out: &mut [u8],
+) -> Answer
+    requires { ⌜ TextsPassed (now list) (now doc) (now work1) (now work2) n k m ⌝ }
+    ensures { λ r. ⌜ Wrote (textStages (now (list .entry)) (now (doc .entry)) (length (now (out .entry)))) (now (out .entry)) (now (out .exit)) r ⌝ }
+{
+    let mut names = [0u32; Limits::TOKENS];
+    directory(list, work1, n, &mut names);
+    if doc.len() <= SHORT_TEXT {
+        return write_short(list, work1, n, &names, k, doc, work2, m, out);
+    }
+    write_long(list, work1, n, &names, k, doc, work2, m, out)
 }
 
 // All stages after the guards. Leaves anything in the work areas.
@@ -106,9 +185,28 @@ fn text_stages(
     ensures { λ _. ⌜ length (now (work1 .exit)) ≡ length (now (work1 .entry)) ⌝ }
     ensures { λ _. ⌜ length (now (work2 .exit)) ≡ length (now (work2 .entry)) ⌝ }
 {
-    let mut names = [0u32; Limits::TOKENS];
-    match both_stages(list, doc, &mut *work1, &mut *work2, &mut names) {
-        Staged::Passed(n, k, m) => write(list, work1, n, &names, k, doc, work2, m, out),
+    let mut lindex = [0u16; Room::INDEX];
+    let mut words = [0u32; Room::WORDS];
+    let mut records = [0u16; Records::WORDS];
+    match both_stages(
+        list,
+        doc,
+        &mut *work1,
+        &mut *work2,
+        &mut lindex,
+        &mut words,
+        &mut records,
+    ) {
+        Staged::Passed(s) => write(
+            list,
+            work1,
+            s.list,
+            s.operations,
+            doc,
+            work2,
+            s.document,
+            out,
+        ),
         Staged::Stopped(r) => r,
     }
 }
@@ -123,7 +221,8 @@ pub fn canon(
     out: &mut [u8],
 ) -> Answer
     ensures { λ r. ⌜ r ≡ canonAnswer (now (list .entry)) (now (doc .entry)) (canonRoom (now (work1 .entry)) (now (work2 .entry)) (now (out .entry))) ⌝ }
-    ensures { λ _. ⌜ now (out .exit) ≡ outputAfter (written (now (list .entry)) (now (doc .entry)) (canonRoom (now (work1 .entry)) (now (work2 .entry)) (now (out .entry)))) (now (out .entry)) ⌝ }
+    ensures { λ _. ⌜ now (out .exit) ≡ outputAfter
+        (written (now (list .entry)) (now (doc .entry)) (canonRoom (now (work1 .entry)) (now (work2 .entry)) (now (out .entry)))) (now (out .entry)) ⌝ }
     ensures { λ r. ⌜ now (work1 .exit) ≡ workAfter r (now (work1 .entry)) ⌝ }
     ensures { λ r. ⌜ now (work2 .exit) ≡ workAfter r (now (work2 .entry)) ⌝ }
 {

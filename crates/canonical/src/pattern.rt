@@ -1,7 +1,7 @@
 // The pieces of names in a row and of left sides.
 use crate::place::Place;
+use crate::place::put_mark;
 use crate::place::put_token;
-use crate::place::put_word;
 use lexis::limits::Limits;
 use lexis::symbol::Symbol;
 use syntax::Parsed;
@@ -27,7 +27,10 @@ ghost use Rattle.canonical.specs.Writing.{Puts, patternPiece, patternPie
 // Puts the names in a row at place `at`, up to its closing bracket.
 pub fn put_names(out: &mut [u8], s: Place, text: &[u8], table: &[u32], n: usize, at: usize) -> Place
     requires { ⌜ Holds (now text) (now table) n ⌝ }
-    ensures { λ r. ⌜ ((ts : List Token) (us : List Token) → row plain (commas rightRound) (expect aName) (toks (now (text .entry)) (now (table .entry)) n at) ≡ ok ts us → Puts (namesPieces (spellings ts)) (now (out .entry)) (now (out .exit)) s r) ⌝ }
+    ensures { λ r. ⌜
+        ((ts : List Token) (us : List Token) → row plain (commas rightRound) (expect aName) (toks (now (text .entry)) (now (table .entry)) n at) ≡ ok ts us
+        → Puts (namesPieces (spellings ts)) (now (out .entry)) (now (out .exit)) s r)
+        ⌝ }
 {
     let mut place = s;
     let mut i = at;
@@ -36,7 +39,7 @@ pub fn put_names(out: &mut [u8], s: Place, text: &[u8], table: &[u32], n: usize,
         if symbol_at(text, table, n, i + 1) != Symbol::COMMA {
             return place;
         }
-        place = put_word(&mut *out, place, b",");
+        place = put_mark(&mut *out, place, b',');
         i += 2;
     }
     place
@@ -50,19 +53,19 @@ fn put_part(out: &mut [u8], s: Place, text: &[u8], table: &[u32], n: usize, i: u
 {
     let c = symbol_at(text, table, n, i);
     if c == Symbol::COMMA {
-        return put_word(out, s, b",");
+        return put_mark(out, s, b',');
     }
     if c == Symbol::LEFT_SQUARE {
-        return put_word(out, s, b"[");
+        return put_mark(out, s, b'[');
     }
     if c == Symbol::RIGHT_SQUARE {
-        return put_word(out, s, b"]");
+        return put_mark(out, s, b']');
     }
     if c == Symbol::LEFT_ROUND {
-        return put_word(out, s, b"(");
+        return put_mark(out, s, b'(');
     }
     if c == Symbol::RIGHT_ROUND {
-        return put_word(out, s, b")");
+        return put_mark(out, s, b')');
     }
     put_token(out, s, text, table, n, i)
 }
@@ -116,7 +119,9 @@ pub fn put_left(
 ) -> Place
     requires { ⌜ Holds (now text) (now table) n ⌝ }
     requires { ⌜ equal < n ⌝ }
-    ensures { λ r. ⌜ ((v : Value) (us : List Token) (u : Ty) (w : Val) → left maxBrackets (toks (now (text .entry)) (now (table .entry)) n at) ≡ ok v us → us ≡ toks (now (text .entry)) (now (table .entry)) n (equal + 1) →
+    ensures { λ r. ⌜
+        ((v : Value) (us : List Token) (u : Ty) (w : Val) → left maxBrackets (toks (now (text .entry)) (now (table .entry)) n at) ≡ ok v us
+        → us ≡ toks (now (text .entry)) (now (table .entry)) n (equal + 1) →
         readAt v u ≡ some w → Puts (leftPieces w) (now (out .entry)) (now (out .exit)) s r) ⌝ }
 {
     if is_bracketed(text, table, n, at, equal) {

@@ -1,35 +1,40 @@
-// A place in the lent output, and the storing of bytes from there on. The same functions measure a text, in an output of no bytes, and
-// write it.
+// A place in an output, and the storing of bytes from there on. A byte beyond the output is counted and not stored, so that a text that does not
+// fit is measured.
 use crate::writer::write_line;
 use lexis::limits::Limits;
 use lists::word::word;
 ghost use mathlib.Core.Path.{_≡_};
 ghost use mathlib.Core.List.{_∷_, []};
-ghost use Prim.Native.Nat.{ℕ, _<_};
+ghost use Prim.Native.Nat.{ℕ, _+_, _<_, _≤_};
+ghost use lib.Dec.{leb};
+ghost use lib.ListN.{length};
 ghost use Rattle.syntax.specs.Table.{tokenAt, Holds};
-ghost use Rattle.canonical.specs.Writing.{nextByte, storeByte, nextToken, passed, stored, Puts, PutsWord};
+ghost use Rattle.canonical.specs.Writing.{oneMore, storeByte, passed, stored, keepsLimits, Puts, PutsWord};
 
-// How many bytes and tokens have been put, counted no further than one beyond their limits.
+// How many bytes and tokens have been put.
 pub struct Place {
     pub bytes: usize,
     pub tokens: usize,
 }
 
-// The position after one byte more.
-fn next_byte(at: usize) -> usize
-    ensures { λ r. ⌜ r ≡ nextByte at ⌝ }
+// The last number of a word.
+const LAST: usize = 18446744073709551615;
+
+// Whether a text that ends at this place keeps the byte and token limits.
+pub fn keeps_limits(s: Place) -> bool
+    ensures { λ r. ⌜ r ≡ keepsLimits s ⌝ }
 {
-    if at <= Limits::TEXT {
-        return at + 1;
+    if !Limits::text_fits(s.bytes) {
+        return false;
     }
-    at
+    Limits::tokens_fit(s.tokens)
 }
 
-// How many tokens there are after one more.
-pub fn next_token(n: usize) -> usize
-    ensures { λ r. ⌜ r ≡ nextToken n ⌝ }
+// One more; counts stop only where a word ends.
+pub fn one_more(n: usize) -> usize
+    ensures { λ r. ⌜ r ≡ oneMore n ⌝ }
 {
-    if n <= Limits::TOKENS {
+    if n < LAST {
         return n + 1;
     }
     n
@@ -37,17 +42,17 @@ pub fn next_token(n: usize) -> usize
 
 // Stores one byte at a position, if the output reaches it, and gives the position after it.
 pub fn put_byte(out: &mut [u8], at: usize, b: u8) -> usize
-    ensures { λ r. ⌜ r ≡ nextByte at ⌝ }
+    ensures { λ r. ⌜ r ≡ oneMore at ⌝ }
     ensures { λ _. ⌜ now (out .exit) ≡ storeByte (now (out .entry)) at b ⌝ }
 {
     if at < out.len() {
         out[at] = b;
     }
-    next_byte(at)
+    one_more(at)
 }
 
-// Stores all bytes of a word from a position on, and gives the position after them.
-pub fn put_bytes(out: &mut [u8], at: usize, word: &[u8]) -> usize
+// Stores all bytes of a word from a position on, one by one, and gives the position after them.
+fn put_slowly(out: &mut [u8], at: usize, word: &[u8]) -> usize
     ensures { λ r. ⌜ r ≡ passed at (now (word .entry)) ⌝ }
     ensures { λ _. ⌜ now (out .exit) ≡ stored (now (out .entry)) at (now (word .entry)) ⌝ }
 {
@@ -60,13 +65,57 @@ pub fn put_bytes(out: &mut [u8], at: usize, word: &[u8]) -> usize
     end
 }
 
+// Whether n bytes from a position on lie in an output of so many bytes.
+fn lies_in(len: usize, at: usize, n: usize) -> bool
+    ensures { λ r. ⌜ r ≡ leb (at + n) len ⌝ }
+{
+    if len < at {
+        return false;
+    }
+    n <= len - at
+}
+
+// Stores all bytes of a word from a position on, where the output holds them.
+fn paste(out: &mut [u8], at: usize, word: &[u8])
+    requires { ⌜ at + length (now word) ≤ length (now out) ⌝ }
+    ensures { λ _. ⌜ now (out .exit) ≡ stored (now (out .entry)) at (now (word .entry)) ⌝ }
+{
+    let mut i = 0;
+    while i < word.len() {
+        out[at + i] = word[i];
+        i += 1;
+    }
+}
+
+// Stores all bytes of a word from a position on, and gives the position after them.
+pub fn put_bytes(out: &mut [u8], at: usize, word: &[u8]) -> usize
+    ensures { λ r. ⌜ r ≡ passed at (now (word .entry)) ⌝ }
+    ensures { λ _. ⌜ now (out .exit) ≡ stored (now (out .entry)) at (now (word .entry)) ⌝ }
+{
+    if !lies_in(out.len(), at, word.len()) {
+        return put_slowly(out, at, word);
+    }
+    paste(out, at, word);
+    at + word.len()
+}
+
+// Puts a token of one byte.
+pub fn put_mark(out: &mut [u8], s: Place, b: u8) -> Place
+    ensures { λ r. ⌜ PutsWord (b ∷ []) (now (out .entry)) (now (out .exit)) s r ⌝ }
+{
+    Place {
+        bytes: put_byte(out, s.bytes, b),
+        tokens: one_more(s.tokens),
+    }
+}
+
 // Puts a token that is spelt so.
 pub fn put_word(out: &mut [u8], s: Place, word: &[u8]) -> Place
     ensures { λ r. ⌜ PutsWord (now (word .entry)) (now (out .entry)) (now (out .exit)) s r ⌝ }
 {
     Place {
         bytes: put_bytes(out, s.bytes, word),
-        tokens: next_token(s.tokens),
+        tokens: one_more(s.tokens),
     }
 }
 
@@ -76,7 +125,7 @@ pub fn put_spaced(out: &mut [u8], s: Place, word: &[u8], space: u8) -> Place
 {
     Place {
         bytes: write_line(out, s.bytes, word, space),
-        tokens: next_token(s.tokens),
+        tokens: one_more(s.tokens),
     }
 }
 

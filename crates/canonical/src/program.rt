@@ -3,8 +3,8 @@ use crate::canon;
 use crate::place::put_byte;
 use crate::spelling::put_digits;
 use lexis::Answer;
+use lexis::code::Code;
 ghost use mathlib.Core.Path.{_≡_};
-ghost use lib.ListN.{length};
 ghost use Rattle.lists.specs.Answer.{workAfter};
 ghost use Rattle.canonical.specs.Answer.{canonRoom, written, canonAnswer};
 ghost use Rattle.canonical.specs.Program.{printed, shown};
@@ -32,13 +32,19 @@ fn put_numbers(out: &mut [u8], a: Answer) -> usize
 
 // Puts into the output what the program writes, and gives how many bytes that is.
 pub fn show(list: &[u8], doc: &[u8], work1: &mut [u32], work2: &mut [u32], out: &mut [u8]) -> usize
-    ensures { λ r. ⌜ r ≡ passed 0 (shown (written (now (list .entry)) (now (doc .entry)) (canonRoom (now (work1 .entry)) (now (work2 .entry)) (now (out .entry))))) ⌝ }
-    ensures { λ _. ⌜ now (out .exit) ≡ stored (now (out .entry)) 0 (shown (written (now (list .entry)) (now (doc .entry)) (canonRoom (now (work1 .entry)) (now (work2 .entry)) (now (out .entry))))) ⌝ }
-    ensures { λ _. ⌜ now (work1 .exit) ≡ workAfter (canonAnswer (now (list .entry)) (now (doc .entry)) (canonRoom (now (work1 .entry)) (now (work2 .entry)) (now (out .entry)))) (now (work1 .entry)) ⌝ }
-    ensures { λ _. ⌜ now (work2 .exit) ≡ workAfter (canonAnswer (now (list .entry)) (now (doc .entry)) (canonRoom (now (work1 .entry)) (now (work2 .entry)) (now (out .entry)))) (now (work2 .entry)) ⌝ }
+    ensures { λ r. ⌜ r ≡ passed 0
+        (shown (written (now (list .entry)) (now (doc .entry)) (canonRoom (now (work1 .entry)) (now (work2 .entry)) (now (out .entry))))) ⌝ }
+    ensures { λ _. ⌜ now (out .exit) ≡ stored (now (out .entry)) 0
+        (shown (written (now (list .entry)) (now (doc .entry)) (canonRoom (now (work1 .entry)) (now (work2 .entry)) (now (out .entry))))) ⌝ }
+    ensures { λ _. ⌜ now (work1 .exit) ≡ workAfter
+        (canonAnswer (now (list .entry)) (now (doc .entry)) (canonRoom (now (work1 .entry)) (now (work2 .entry)) (now (out .entry)))) (now (work1 .entry))
+        ⌝ }
+    ensures { λ _. ⌜ now (work2 .exit) ≡ workAfter
+        (canonAnswer (now (list .entry)) (now (doc .entry)) (canonRoom (now (work1 .entry)) (now (work2 .entry)) (now (out .entry)))) (now (work2 .entry))
+        ⌝ }
 {
     let a = canon(list, doc, work1, work2, &mut *out);
-    if a.code == 0 {
+    if a.code == Code::ACCEPTED {
         return a.detail as usize;
     }
     put_numbers(out, a)

@@ -1,25 +1,43 @@
 // The canonical spelling of numbers, strings and truth values.
 use crate::place::Place;
-use crate::place::next_token;
+use crate::place::one_more;
 use crate::place::put_byte;
+use crate::place::put_bytes;
 use crate::place::put_word;
 use crate::writer::write_quoted;
-use lexis::limits::Limits;
 use lexis::number::Reduction;
 use lexis::number::reduce;
-use lists::fitting::digit;
 ghost use mathlib.Core.Path.{_≡_};
 ghost use mathlib.Core.Bool.{true};
-ghost use Prim.Native.Nat.{_≤_};
-ghost use lib.IntN.{ℤ};
+ghost use Prim.Native.Nat.{_-_, _<_, _≤_};
 ghost use lib.Dec.{eqb};
-ghost use lib.ListN.{length};
+ghost use lib.ListN.{length, take, drop};
 ghost use Rattle.lexis.specs.Bytes.{classTable};
-ghost use Rattle.lexis.specs.Sizes.{maxNumber, maxExtent};
-ghost use Rattle.lexis.specs.Number.{Reduced, valueFrom, partsOf, reducedOf, isNear, inRange};
+ghost use Rattle.lexis.specs.Sizes.{maxNumber};
+ghost use Rattle.lexis.specs.Number.{valueFrom, partsOf, reducedOf, isNear, inRange};
 ghost use Rattle.lists.specs.Reading.{contentOf};
 ghost use Rattle.canonical.specs.Spelling.{decimal, spellExponent, spellNumber, quoteFor, spellString, spellTruth};
-ghost use Rattle.canonical.specs.Writing.{passed, stored, PutsWord};
+ghost use Rattle.canonical.specs.Writing.{passed, stored, PutsWord, Unpadded, AreDigits};
+
+// The most digits that a number of 64 bits has.
+const DIGITS: usize = 20;
+
+// Stores the digits of n at the end of a buffer of 20 bytes, and gives the place of the first.
+fn fill(buffer: &mut [u8], n: u64) -> usize
+    requires { ⌜ length (now buffer) ≡ 20 ⌝ }
+    ensures range { λ r. ⌜ r < 20 ⌝ }
+    ensures digits { λ r. ⌜ take (20 - r) (drop r (now (buffer .exit))) ≡ decimal n ⌝ }
+{
+    let mut rest = n;
+    let mut i = DIGITS - 1;
+    while 10 <= rest {
+        buffer[i] = b'0' + (rest % 10) as u8;
+        rest = rest / 10;
+        i -= 1;
+    }
+    buffer[i] = b'0' + rest as u8;
+    i
+}
 
 // The bytes of the digits of n, from a position on.
 pub fn put_digits(out: &mut [u8], at: usize, n: u64) -> usize
@@ -29,8 +47,9 @@ pub fn put_digits(out: &mut [u8], at: usize, n: u64) -> usize
     if n < 10 {
         return put_byte(out, at, b'0' + n as u8);
     }
-    let end = put_digits(&mut *out, at, n / 10);
-    put_byte(out, end, b'0' + (n % 10) as u8)
+    let mut buffer = [0u8; DIGITS];
+    let from = fill(&mut buffer, n);
+    put_bytes(out, at, &buffer[from..DIGITS])
 }
 
 // The bytes of an exponent.
@@ -55,7 +74,7 @@ fn put_reduced(out: &mut [u8], s: Place, mantissa: u64, exponent: i32) -> Place
     let letter = put_byte(&mut *out, whole, b'e');
     Place {
         bytes: put_exponent(out, letter, exponent),
-        tokens: next_token(s.tokens),
+        tokens: one_more(s.tokens),
     }
 }
 
@@ -63,7 +82,10 @@ fn put_reduced(out: &mut [u8], s: Place, mantissa: u64, exponent: i32) -> Place
 pub fn put_number(out: &mut [u8], s: Place, classes: &[u8; 256], word: &[u8]) -> Place
     requires { ⌜ now classes ≡ classTable ⌝ }
     requires { ⌜ length (now word) ≤ maxNumber ⌝ }
-    ensures { λ r. ⌜ (inRange (now (word .entry)) (partsOf (now (word .entry))) ≡ true → PutsWord (spellNumber (reducedOf (now (word .entry)) (partsOf (now (word .entry))))) (now (out .entry)) (now (out .exit)) s r) ⌝ }
+    ensures { λ r. ⌜
+        (inRange (now (word .entry)) (partsOf (now (word .entry))) ≡ true
+        → PutsWord (spellNumber (reducedOf (now (word .entry)) (partsOf (now (word .entry))))) (now (out .entry)) (now (out .exit)) s r)
+        ⌝ }
 {
     match reduce(classes, word) {
         Reduction::Number { mantissa, exponent } => put_reduced(out, s, mantissa, exponent),
@@ -71,30 +93,26 @@ pub fn put_number(out: &mut [u8], s: Place, classes: &[u8; 256], word: &[u8]) ->
     }
 }
 
-// The number that digits spell, if it is at most 2,147,483,647.
-fn extent_of(w: &[u8]) -> u64
-    ensures { λ r. ⌜ (valueFrom 0 (now (w .entry)) ≤ maxExtent → r ≡ valueFrom 0 (now (w .entry))) ⌝ }
+// How many zeros lead digits, the last digit not counted.
+fn zeros(w: &[u8]) -> usize
+    ensures { λ r. ⌜ Unpadded (now (w .entry)) r ⌝ }
 {
-    let mut v = 0;
     let mut i = 0;
-    while i < w.len() {
-        v = v * 10 + digit(w[i]);
-        if Limits::EXTENT < v {
-            return v;
+    while i + 1 < w.len() {
+        if w[i] != b'0' {
+            return i;
         }
         i += 1;
     }
-    v
+    i
 }
 
-// Puts a whole number at extent: plain digits without leading zeros.
+// Puts a whole number at extent: its digits without leading zeros.
 pub fn put_extent(out: &mut [u8], s: Place, word: &[u8]) -> Place
-    ensures { λ r. ⌜ (valueFrom 0 (now (word .entry)) ≤ maxExtent → PutsWord (decimal (valueFrom 0 (now (word .entry)))) (now (out .entry)) (now (out .exit)) s r) ⌝ }
+    ensures { λ r. ⌜ (AreDigits (now (word .entry)) → PutsWord (decimal (valueFrom 0 (now (word .entry)))) (now (out .entry)) (now (out .exit)) s r) ⌝ }
 {
-    Place {
-        bytes: put_digits(out, s.bytes, extent_of(word)),
-        tokens: next_token(s.tokens),
-    }
+    let from = zeros(word);
+    put_word(out, s, &word[from..word.len()])
 }
 
 // The quote for a string of this content.
@@ -118,7 +136,7 @@ fn put_quoted(out: &mut [u8], s: Place, content: &[u8]) -> Place
     let quote = quote_for(content);
     Place {
         bytes: write_quoted(out, s.bytes, quote, content),
-        tokens: next_token(s.tokens),
+        tokens: one_more(s.tokens),
     }
 }
 

@@ -56,7 +56,7 @@ fn tokens_case(text: &[u8]) {
     let mut table = [0u32; Limits::TABLE_WORDS];
     let a = lexis::tokens(text, &mut table);
     print_answer(a);
-    if a.code == 0 {
+    if a.code == Code::ACCEPTED {
         if size(a.detail) <= Limits::TOKENS {
             io::write_all(1, b" :");
             print_words(&table, size(a.detail) * Limits::TOKEN_WORDS);
@@ -70,7 +70,7 @@ fn syntax_case(text: &[u8], which: Syntax) {
         print_answer(lexis::Answer {
             code: Code::LONG_TEXT,
             text: 1,
-            position: 16384,
+            position: Limits::TEXT as u32,
             detail: 0,
         });
         return;
@@ -79,7 +79,7 @@ fn syntax_case(text: &[u8], which: Syntax) {
     let mut work = [0u32; Limits::WORK_WORDS];
     match syntax::read(&classes, text, &mut work, which) {
         Counted::Tokens(n) => print_answer(lexis::Answer {
-            code: 0,
+            code: Code::ACCEPTED,
             text: 0,
             position: 0,
             detail: n,

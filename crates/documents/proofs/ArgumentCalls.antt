@@ -45,7 +45,8 @@ module _ (t : Token) (us : List Token) where
   reads-either true p q = reads-array p
   reads-either false p q = reads-tuple q
 
-  reads-step : (p q r : Bool) {x : Parse Value} → Reads t us false x → Reads t us p (cond p (ok (name t) us) (cond q (ok (literal t) us) (cond r x (bad 9 (t ∷ us)))))
+  reads-step : (p q r : Bool) {x : Parse Value} → Reads t us false x
+      → Reads t us p (cond p (ok (name t) us) (cond q (ok (literal t) us) (cond r x (bad 9 (t ∷ us)))))
   reads-step true q r y = a-name
   reads-step false true r y = a-literal
   reads-step false false true y = y
@@ -103,7 +104,8 @@ module _ (b : ℕ) (t : Token) (us : List Token) {x : Arg} {ws : List Token} whe
   name-labels true e h = let m = mapped-ok (named t) (value both b (rest us)) h in rw (sym (m .made)) (label (m .one))
   name-labels false e h = plain-labels (name t) false e h
 
-  labels-by : {p : Bool} {r : Parse Value} → Reads t us p r → value both b (t ∷ us) ≡ r → then r (λ v ws. labelled v (begins equal ws) b ws) ≡ ok x ws → Labels b t us ws (p && begins equal us) x
+  labels-by : {p : Bool} {r : Parse Value} → Reads t us p r → value both b (t ∷ us) ≡ r → then r (λ v ws. labelled v (begins equal ws) b ws) ≡ ok x ws
+      → Labels b t us ws (p && begins equal us) x
   labels-by a-fault e h = clash cc
   labels-by a-name e h = name-labels (begins equal us) e h
   labels-by a-literal e h = plain-labels (literal t) false e h
@@ -138,7 +140,8 @@ module _ (text table : List ℕ) (n i b : ℕ) {x : Arg} {ws : List Token} (h : 
       made : {t : Token} {us : List Token} {c : Bool} → toks text table n i ≡ t ∷ us → c ≡ true → {y : Arg} → y ≡ x → Labels b t us ws c y → Labelled
       made {t} {us} e q y (label {v = v} k) =
           let z : i + 1 + 1 ≡ i + 2 = omega arith in
-          let r : rest us ≡ toks text table n (i + 2) = sym (ap (λ (ts : List Token). rest (rest ts)) e) ∙ ap rest (toks-rest text table n i) ∙ toks-rest text table n (i + 1) ∙ ap (λ (m : ℕ). toks text table n m) z in
+          let r : rest us ≡ toks text table n (i + 2) = sym (ap (λ (ts : List Token). rest (rest ts)) e) ∙ ap rest (toks-rest text table n i)
+          ∙ toks-rest text table n (i + 1) ∙ ap (λ (m : ℕ). toks text table n m) z in
           record { tree = v; reads = ap (value both b) (sym r) ∙ k; is = sym y ∙ ap (λ (s : Token). named s v) (token-is text table n i e) }
       made e q y (bare k) = absurd (false≢true q)
 

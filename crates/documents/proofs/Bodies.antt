@@ -37,7 +37,8 @@ module _ (b : ℕ) where
   behind f ts c (q ∷ us) cs ws h ih e = go (eqb (symOf q) rightCurly) refl e
     where
       go : (p : Bool) → eqb (symOf q) rightCurly ≡ p
-          → onward (cond p (done us) (again (q ∷ us))) (q ∷ us) (λ ws. mapped (λ cs. c ∷ cs) (rowF f plain (closed rightCurly) (call b) ws)) (λ ws. ok (c ∷ []) ws) ≡ ok cs ws
+          → onward (cond p (done us) (again (q ∷ us))) (q ∷ us) (λ ws. mapped (λ cs. c ∷ cs) (rowF f plain (closed rightCurly) (call b) ws))
+          (λ ws. ok (c ∷ []) ws) ≡ ok cs ws
           → Body b ts cs ws
       go true p e =
           let x : c ∷ [] ≡ cs = cc in

@@ -49,7 +49,8 @@ expect-ok s (x ∷ ts) t us e = go (eqb (symOf x) s) refl e
     go false h e = clash cc
 
 -- the same, on to whatever is to be shown
-pub after-ok : {A B C : Type 0} (p : Parse A) (k : A → List Token → Parse B) (b : B) (ws : List Token) → then p k ≡ ok b ws → ((a : A) (us : List Token) → p ≡ ok a us → k a us ≡ ok b ws → C) → C
+pub after-ok : {A B C : Type 0} (p : Parse A) (k : A → List Token → Parse B) (b : B) (ws : List Token) → then p k ≡ ok b ws
+    → ((a : A) (us : List Token) → p ≡ ok a us → k a us ≡ ok b ws → C) → C
 after-ok p k b ws e f = let r = then-ok p k b ws e in f (r .0) (r .1) (r .2) (r .3)
 
 pub token-ok : {B C : Type 0} (s : ℕ) (ts : List Token) (k : Token → List Token → Parse B) (b : B) (ws : List Token) → then (expect s ts) k ≡ ok b ws
@@ -84,7 +85,8 @@ module _ {A : Type 0} (item : Reader A) (close : ℕ) where
   behind f ts a (c ∷ us) xs ws h ih e = go (eqb (symOf c) comma) refl (eqb (symOf c) close) refl e
     where
       go : (p : Bool) → eqb (symOf c) comma ≡ p → (q : Bool) → eqb (symOf c) close ≡ q
-          → onward (cond p (again us) (cond q (done us) neither)) (c ∷ us) (λ ws. mapped (λ xs. a ∷ xs) (rowF f plain (commas close) item ws)) (λ ws. ok (a ∷ []) ws) ≡ ok xs ws
+          → onward (cond p (again us) (cond q (done us) neither)) (c ∷ us) (λ ws. mapped (λ xs. a ∷ xs) (rowF f plain (commas close) item ws))
+          (λ ws. ok (a ∷ []) ws) ≡ ok xs ws
           → Separated (Reading item) close ts xs ws
       go true p q r e =
           let m = mapped-ok (λ xs. a ∷ xs) (rowF f plain (commas close) item us) xs ws e in
@@ -95,7 +97,8 @@ module _ {A : Type 0} (item : Reader A) (close : ℕ) where
           rw (← x, ← y) (last h (eqb-true (symOf c) close r))
       go false p false r e = clash cc
 
-  separated-fuel : (f : ℕ) (ts : List Token) (xs : List A) (ws : List Token) → rowF f plain (commas close) item ts ≡ ok xs ws → Separated (Reading item) close ts xs ws
+  separated-fuel : (f : ℕ) (ts : List Token) (xs : List A) (ws : List Token) → rowF f plain (commas close) item ts ≡ ok xs ws
+      → Separated (Reading item) close ts xs ws
   unfolding rowF
   separated-fuel zero ts xs ws e = clash cc
   separated-fuel (suc f) ts xs ws e =

@@ -1,10 +1,13 @@
 -- A call that is read from a place: its parts as the grammar has them, and the places at which a flat scan finds them: the `=`, the
 -- operation's name, the closing bracket, and what comes after the call. Assumes nothing.
-use mathlib.Core.Path.{_≡_, refl, sym, ap, _∙_}
+use mathlib.Core.Path.{_≡_, refl, sym, ap, subst, _∙_}
 use mathlib.Core.Bool.{Bool, true, false, cond, false≢true}
-use mathlib.Core.List.{List, [], _∷_, _++_}
+use mathlib.Core.List.{List, [], _∷_, _++_, flatMap}
 use Prim.Native.Nat.{ℕ, _+_, _-_, _≤_, _<_, min}
+use native.Mathlib.Nat.{le-refl}
 use native.Mathlib.Omega.{arith}
+use lib.Dec.{eqb}
+use lib.ListN.{length}
 use Rattle.lexis.specs.Lexer.{Token}
 use Rattle.lexis.specs.Symbol.{symOf, leftRound, rightRound, equal, semicolon, aName}
 use Rattle.syntax.specs.Tree.{Arg, Call}
@@ -14,15 +17,18 @@ use Rattle.syntax.specs.Parser.{expect, begins, rest, row, plain, argument, lef
 use Rattle.syntax.specs.Parser.Parse.{ok}
 use Rattle.syntax.specs.Parser.Row.{commas}
 use Rattle.syntax.specs.Table.{toks}
-use Rattle.syntax.proofs.Table.{toks-rest}
+use Rattle.syntax.proofs.Table.{toks-rest, toks-length, toks-suffix}
+use Rattle.syntax.proofs.Tails.{Suffix}
+use Rattle.syntax.proofs.Tails.Suffix.{all, past}
 use Rattle.syntax.proofs.Sound.{argument-reads, left-reads}
-use Rattle.lists.specs.Names.{firstToken, assigned, used}
-use Rattle.lists.specs.Scans.{namesAmong, usesAmong, fromSymbol, fromClose}
+use Rattle.lists.specs.Names.{firstToken, namesIn, valueOf, assigned, used}
+use Rattle.lists.specs.Scans.{namesAmong, usesAmong, fromSymbol, openAfter, fromClose}
 use Rattle.lists.proofs.Parts.{cancel, toks-split, First, first-of, those-append, uses-append}
-use Rattle.documents.specs.Calls.{Arguments, CallAt, PlacesInside}
+use Rattle.documents.specs.Calls.{CallFrom, CallAt, PlacesInside}
 use Rattle.documents.specs.declared.calls.Places.{Places}
 use Rattle.documents.proofs.CallParses.{then-ok, expect-ok, reads-ok, Reading, separated-ok}
-use Rattle.documents.proofs.Flat.{Comes, left-equal, left-names, left-starts, arguments-uses, arguments-close, names-past, uses-past, symbol-here, close-here}
+use Rattle.documents.proofs.Flat.{Comes, left-equal, left-names, left-starts, arguments-uses, arguments-close, names-past, uses-past, symbol-here}
+use Rattle.documents.proofs.Flat.{close-here}
 
 -- ---- the parts of a call
 
@@ -38,7 +44,8 @@ pub record CallParts (b : ℕ) (ts : List Token) (c : Call) (us : List Token) : 
   pub args : Separated (IsArg b) rightRound inner (c .args) behind
   pub ends : us ≡ cond (begins semicolon behind) (rest behind) behind
 
-pub arguments-are : {b : ℕ} {ts us : List Token} {xs : List Arg} → Separated (Reading (argument b)) rightRound ts xs us → Separated (IsArg b) rightRound ts xs us
+pub arguments-are : {b : ℕ} {ts us : List Token} {xs : List Arg} → Separated (Reading (argument b)) rightRound ts xs us
+    → Separated (IsArg b) rightRound ts xs us
 arguments-are {b} (last {c = c} {ts} {us} {a = x} h e) = last (reads-ok IsArg b (argument b) (argument-reads b) ts x (c ∷ us) h) e
 arguments-are {b} (next {c = c} {ts} {us} {a = x} h e r) = next (reads-ok IsArg b (argument b) (argument-reads b) ts x (c ∷ us) h) e (arguments-are r)
 
@@ -70,122 +77,202 @@ call-parts b ts c us e =
 
 -- ---- their places
 
-module _ (text table : List ℕ) (n at : ℕ) where
-  -- how the places are found
-  pub record Found (p : Places) : Type 0 where
-    pub from : at ≤ p .equal
-    pub left : p .equal ≤ n
-    pub equal-is : toks text table n (p .equal) ≡ fromSymbol equal (toks text table n at)
-    pub within : min (p .equal + 3) n ≤ p .close
-    pub right : p .close ≤ n
-    pub close-is : toks text table n (p .close) ≡ fromClose 1 (toks text table n (p .equal + 3))
-    pub next-is : p .next ≡ cond (begins semicolon (toks text table n (p .close + 1))) (p .close + 2) (p .close + 1)
+suffix-length : {ts us : List Token} → Suffix ts us → length us ≤ length ts
+suffix-length all = le-refl _
+suffix-length (past {ts = ts} {us = us} s) = let l = suffix-length s in omega arith
 
-  pub found-in : (p : Places) → at ≤ n → Found p → PlacesInside n at p
-  found-in p l f =
-      let w = past (begins semicolon (toks text table n (p .close + 1))) (f .next-is) in
-      record { from = f .from; left = f .left; right = f .right; on = let a = f .within in let b = f .left in omega arith; past = w }
-    where
-      past : (b : Bool) → p .next ≡ cond b (p .close + 2) (p .close + 1) → p .close < p .next
-      past true e = omega arith
-      past false e = omega arith
+close-suffix : (k : ℕ) (ts : List Token) → Suffix ts (fromClose k ts)
+unfolding fromClose
+close-suffix k [] = all
+close-suffix k (t ∷ ts) = go (eqb (openAfter k (symOf t)) 0) (close-suffix (openAfter k (symOf t)) ts)
+  where
+    go : (b : Bool) → Suffix ts (fromClose (openAfter k (symOf t)) ts) → Suffix (t ∷ ts) (cond b (t ∷ ts) (fromClose (openAfter k (symOf t)) ts))
+    go true s = all
+    go false s = past s
 
+-- the place after a call is beyond the bracket that closes its arguments
+pub next-after : (ts : List Token) (close to : ℕ) → to ≡ cond (begins semicolon ts) (close + 2) (close + 1) → close < to
+next-after ts close to e = by (begins semicolon ts) e
+  where
+    by : (b : Bool) → to ≡ cond b (close + 2) (close + 1) → close < to
+    by true q = omega arith
+    by false q = omega arith
+
+module _ (text table : List ℕ) (n : ℕ) where
   abbrev tk : ℕ → List Token
   tk i = toks text table n i
 
-  module _ (p : Places) (f : Found p) (b : ℕ) (c : Call) (us : List Token) (w : CallParts b (toks text table n at) c us) where
-    abbrev e : ℕ
-    e = p .equal
+  -- arguments that are read from place i on close where a flat scan says so
+  module _ (b i : ℕ) (xs : List Arg) (us : List Token) (r : row plain (commas rightRound) (argument b) (toks text table n i) ≡ ok xs us) where
+    args-are : Separated (IsArg b) rightRound (tk i) xs us
+    args-are = arguments-are (separated-ok (argument b) rightRound (tk i) xs us r)
 
-    x : Comes (fromSymbol equal) equal (tk at) (c .op ∷ w .bracket ∷ w .inner)
-    x = left-equal (w .is-left)
+    y : Comes (fromClose 1) rightRound (tk i) us
+    y = arguments-close args-are
 
-    -- the tokens from the `=` on, and from the closing bracket on
-    at-equal : First text table n e (x .token) (c .op ∷ w .bracket ∷ w .inner)
-    at-equal = first-of text table n e (x .token) _ (f .equal-is ∙ x .reached ∙ symbol-here (x .token) _ equal (x .closes))
+    closing-is : fromClose 1 (tk i) ≡ y .token ∷ us
+    closing-is = y .reached ∙ close-here (y .token) us (y .closes)
 
-    at-name : First text table n (e + 1) (c .op) (w .bracket ∷ w .inner)
-    at-name = first-of text table n (e + 1) (c .op) _ (at-equal .rest)
+    pub closes-at : (close : ℕ) → tk close ≡ fromClose 1 (tk i) → (us ≡ tk (close + 1)) × (close < n)
+    closes-at close e = let f = first-of text table n close (y .token) us (e ∙ closing-is) in (sym (f .rest), f .inside)
 
-    at-bracket : First text table n (e + 1 + 1) (w .bracket) (w .inner)
-    at-bracket = first-of text table n (e + 1 + 1) (w .bracket) _ (at-name .rest)
+    -- and a place after which the rest is theirs is that of their bracket
+    module _ (close : ℕ) (e : us ≡ toks text table n (close + 1)) (h : close < n) where
+      closes-here : tk close ≡ y .token ∷ us
+      closes-here =
+          let s = subst (Suffix (tk i)) closing-is (close-suffix 1 (tk i)) in
+          let l = ap (λ (l : List Token). length l) e ∙ toks-length text table n (close + 1) in
+          let z : n - length (y .token ∷ us) ≡ close = omega arith in
+          sym (toks-suffix text table n i s ∙ ap tk z)
 
-    inside : toks text table n (e + 3) ≡ w .inner
-    inside = let q : e + 3 ≡ e + 1 + 1 + 1 = omega arith in ap tk q ∙ at-bracket .rest
+      after-start : i ≤ close
+      after-start =
+          let s = suffix-length (subst (Suffix (tk i)) closing-is (close-suffix 1 (tk i))) in
+          let l = ap (λ (l : List Token). length l) e ∙ toks-length text table n (close + 1) in
+          let m = toks-length text table n i in
+          omega arith
 
-    y : Comes (fromClose 1) rightRound (w .inner) (w .behind)
-    y = arguments-close (w .args)
+      pub uses-of : usesAmong (toks text table close i) ≡ flatMap (λ (a : Arg). namesIn (valueOf a)) xs
+      uses-of =
+          let C = y .token in
+          let other : begins equal (C ∷ us) ≡ false = simp (y .closes) in
+          let whole : usesAmong (tk i) ≡ usesAmong (toks text table close i) ++ usesAmong us =
+          ap usesAmong (toks-split text table n i close after-start (omega arith) ∙ ap (λ (z : List Token). toks text table close i ++ z) closes-here)
+          ∙ uses-append (toks text table close i) (C ∷ us) other
+          ∙ ap (λ (z : List Token). usesAmong (toks text table close i) ++ z) (uses-past C us (y .closes) refl) in
+          cancel _ _ (usesAmong us) (sym whole ∙ arguments-uses args-are)
 
-    at-close : First text table n (p .close) (y .token) (w .behind)
-    at-close = first-of text table n (p .close) (y .token) _ (f .close-is ∙ ap (fromClose 1) inside ∙ y .reached ∙ close-here (y .token) _ (y .closes))
+  module _ (at : ℕ) where
+    -- how the place of a call's `=` is found
+    pub record FoundEqual (e : ℕ) : Type 0 where
+      pub from : at ≤ e
+      pub left : e ≤ n
+      pub is : toks text table n e ≡ fromSymbol equal (toks text table n at)
 
-    names-are : namesAmong (toks text table e at) ≡ assigned c
-    names-are =
-        let rest = c .op ∷ w .bracket ∷ w .inner in
-        let whole : namesAmong (tk at) ≡ namesAmong (toks text table e at) ++ namesAmong rest =
-        ap namesAmong (toks-split text table n at e (f .from) (f .left))
-        ∙ those-append _ (toks text table e at) (tk e)
-        ∙ ap (λ (l : List Token). namesAmong (toks text table e at) ++ l) (ap namesAmong (f .equal-is ∙ x .reached ∙ symbol-here (x .token) rest equal (x .closes)) ∙ names-past (x .token) rest (x .closes) refl) in
-        cancel (namesAmong (toks text table e at)) (assigned c) (namesAmong rest) (sym whole ∙ left-names (w .is-left))
+    module _ (e : ℕ) (f : FoundEqual e) (b : ℕ) (c : Call) (us : List Token) (w : CallParts b (toks text table n at) c us) where
+      x : Comes (fromSymbol equal) equal (tk at) (c .op ∷ w .bracket ∷ w .inner)
+      x = left-equal (w .is-left)
 
-    uses-are : usesAmong (toks text table (p .close) (e + 3)) ≡ used c
-    unfolding used
-    uses-are =
-        let l : e + 3 ≤ p .close = let a = f .within in let q = at-bracket .inside in omega arith in
-        let C = y .token in
-        let here : tk (p .close) ≡ C ∷ w .behind = f .close-is ∙ ap (fromClose 1) inside ∙ y .reached ∙ close-here C _ (y .closes) in
-        let other : begins equal (C ∷ w .behind) ≡ false = simp (y .closes) in
-        let whole : usesAmong (w .inner) ≡ usesAmong (toks text table (p .close) (e + 3)) ++ usesAmong (w .behind) =
-        ap usesAmong (sym inside ∙ toks-split text table n (e + 3) (p .close) l (f .right) ∙ ap (λ (z : List Token). toks text table (p .close) (e + 3) ++ z) here)
-        ∙ uses-append (toks text table (p .close) (e + 3)) (C ∷ w .behind) other
-        ∙ ap (λ (z : List Token). usesAmong (toks text table (p .close) (e + 3)) ++ z) (uses-past C (w .behind) (y .closes) refl) in
-        cancel _ _ (usesAmong (w .behind)) (sym whole ∙ arguments-uses (w .args))
+      at-equal : First text table n e (x .token) (c .op ∷ w .bracket ∷ w .inner)
+      at-equal = first-of text table n e (x .token) _ (f .is ∙ x .reached ∙ symbol-here (x .token) _ equal (x .closes))
 
-    -- after the call: past a semicolon, where there is one
-    after-is : (us ≡ toks text table n (p .next)) × (p .next ≤ n)
-    after-is = go (begins semicolon (w .behind)) refl (w .ends) (f .next-is ∙ ap (λ (l : List Token). cond (begins semicolon l) (p .close + 2) (p .close + 1)) (at-close .rest))
-      where
-        past : (ts : List Token) → ts ≡ tk (p .close + 1) → begins semicolon ts ≡ true → p .close + 1 < n
-        past [] z q = absurd (false≢true q)
-        past (t ∷ ts) z q = first-of text table n (p .close + 1) t ts (sym z) .inside
+      at-name : First text table n (e + 1) (c .op) (w .bracket ∷ w .inner)
+      at-name = first-of text table n (e + 1) (c .op) _ (at-equal .rest)
 
-        go : (s : Bool) → begins semicolon (w .behind) ≡ s → us ≡ cond (begins semicolon (w .behind)) (rest (w .behind)) (w .behind)
-            → p .next ≡ cond (begins semicolon (w .behind)) (p .close + 2) (p .close + 1) → (us ≡ toks text table n (p .next)) × (p .next ≤ n)
-        go true q u v =
-            let i = past (w .behind) (sym (at-close .rest)) q in
-            let j : p .next ≡ p .close + 2 = v ∙ ap (λ (s : Bool). cond s (p .close + 2) (p .close + 1)) q in
-            let k : p .next ≡ p .close + 1 + 1 = omega arith in
-            (u ∙ ap (λ (s : Bool). cond s (rest (w .behind)) (w .behind)) q ∙ ap rest (sym (at-close .rest)) ∙ toks-rest text table n (p .close + 1) ∙ ap tk (sym k), omega arith)
-        go false q u v =
-            let i = at-close .inside in
-            let k : p .next ≡ p .close + 1 = v ∙ ap (λ (s : Bool). cond s (p .close + 2) (p .close + 1)) q in
-            (u ∙ ap (λ (s : Bool). cond s (rest (w .behind)) (w .behind)) q ∙ sym (at-close .rest) ∙ ap tk (sym k), omega arith)
+      at-bracket : First text table n (e + 1 + 1) (w .bracket) (w .inner)
+      at-bracket = first-of text table n (e + 1 + 1) (w .bracket) _ (at-name .rest)
 
-    call-placed : ((b : ℕ) (ws : List Token) → call b (toks text table n at) ≡ ok c ws → left b (toks text table n at) ≡ ok (c .left) (toks text table n (p .equal + 1)))
-        → ((b : ℕ) (ws : List Token) → call b (toks text table n at) ≡ ok c ws → Arguments b (toks text table n (p .equal + 3)) (c .args)) → CallAt text table n at p c us
-    call-placed leads arguments =
+      inside : toks text table n (e + 3) ≡ w .inner
+      inside = let q : e + 3 ≡ e + 1 + 1 + 1 = omega arith in ap tk q ∙ at-bracket .rest
+
+      read-there : row plain (commas rightRound) (argument b) (toks text table n (e + 3)) ≡ ok (c .args) (w .behind)
+      read-there = ap (row plain (commas rightRound) (argument b)) inside ∙ w .read
+
+      names-are : namesAmong (toks text table e at) ≡ assigned c
+      names-are =
+          let rest = c .op ∷ w .bracket ∷ w .inner in
+          let whole : namesAmong (tk at) ≡ namesAmong (toks text table e at) ++ namesAmong rest =
+          ap namesAmong (toks-split text table n at e (f .from) (f .left))
+          ∙ those-append _ (toks text table e at) (tk e)
+          ∙ ap (λ (l : List Token). namesAmong (toks text table e at) ++ l)
+          (ap namesAmong (f .is ∙ x .reached ∙ symbol-here (x .token) rest equal (x .closes)) ∙ names-past (x .token) rest (x .closes) refl) in
+          cancel (namesAmong (toks text table e at)) (assigned c) (namesAmong rest) (sym whole ∙ left-names (w .is-left))
+
+      -- after the call: past a semicolon, where there is one
+      module _ (close next : ℕ) (closes : (w .behind ≡ toks text table n (close + 1)) × (close < n))
+          (next-is : next ≡ cond (begins semicolon (toks text table n (close + 1))) (close + 2) (close + 1)) where
+        after-is : (us ≡ toks text table n next) × (next ≤ n)
+        after-is =
+            go (begins semicolon (w .behind)) refl (w .ends)
+            (next-is ∙ ap (λ (l : List Token). cond (begins semicolon l) (close + 2) (close + 1)) (sym (closes .0)))
+          where
+            beyond : (ts : List Token) → ts ≡ tk (close + 1) → begins semicolon ts ≡ true → close + 1 < n
+            beyond [] z q = absurd (false≢true q)
+            beyond (t ∷ ts) z q = first-of text table n (close + 1) t ts (sym z) .inside
+
+            go : (s : Bool) → begins semicolon (w .behind) ≡ s → us ≡ cond (begins semicolon (w .behind)) (rest (w .behind)) (w .behind)
+                → next ≡ cond (begins semicolon (w .behind)) (close + 2) (close + 1) → (us ≡ toks text table n next) × (next ≤ n)
+            go true q u v =
+                let i = beyond (w .behind) (closes .0) q in
+                let j : next ≡ close + 2 = v ∙ ap (λ (s : Bool). cond s (close + 2) (close + 1)) q in
+                let k : next ≡ close + 1 + 1 = omega arith in (
+                  u ∙ ap (λ (s : Bool). cond s (rest (w .behind)) (w .behind)) q ∙ ap rest (closes .0) ∙ toks-rest text table n (close + 1)
+                      ∙ ap tk (sym k),
+                  omega arith,
+                )
+            go false q u v =
+                let k : next ≡ close + 1 = v ∙ ap (λ (s : Bool). cond s (close + 2) (close + 1)) q in
+                let i = closes .1 in
+                (u ∙ ap (λ (s : Bool). cond s (rest (w .behind)) (w .behind)) q ∙ closes .0 ∙ ap tk (sym k), omega arith)
+
+        uses-are : usesAmong (toks text table close (e + 3)) ≡ used c
+        unfolding used
+        uses-are = uses-of b (e + 3) (c .args) (w .behind) read-there close (closes .0) (closes .1)
+
+    -- a call whose `=` is found
+    pub call-from : (e : ℕ) → FoundEqual e → (b : ℕ) (c : Call) (us : List Token) → call b (toks text table n at) ≡ ok c us → CallFrom text table n at e c
+    call-from e f b c us h =
+        let w = call-parts b (tk at) c us h in
         let s = left-starts (w .is-left) in
         let o = first-of text table n at (firstToken (c .left)) (s .others) (s .whole) in
         record {
           first = o .here;
-          leads = leads;
-          assigns = names-are;
-          title = at-name .here;
-          uses = uses-are;
-          arguments = arguments;
-          after = after-is .0;
-          inside = (o .inside, at-name .inside, after-is .1);
+          leads = λ d ws k. let v = call-parts d (tk at) c ws k in v .leads ∙ ap (λ (l : List Token). ok (c .left) l) (sym (at-equal e f d c ws v .rest));
+          assigns = names-are e f b c us w;
+          title = at-name e f b c us w .here;
+          arguments = λ d ws k. let v = call-parts d (tk at) c ws k in record { behind = v .behind; read = read-there e f d c ws v };
+          inside = (o .inside, at-name e f b c us w .inside);
         }
 
-  leads-at : (p : Places) → Found p → (c : Call) (b : ℕ) (us : List Token) → call b (toks text table n at) ≡ ok c us → left b (toks text table n at) ≡ ok (c .left) (toks text table n (p .equal + 1))
-  leads-at p f c b us h =
-      let w = call-parts b (toks text table n at) c us h in
-      w .leads ∙ ap (λ (x : List Token). ok (c .left) x) (sym (at-equal p f b c us w .rest))
+    -- and whose arguments close somewhere: its uses, and what comes after it
+    pub record CallEnds (equal close next : ℕ) (c : Call) (us : List Token) : Type 0 where
+      pub uses : usesAmong (toks text table close (equal + 3)) ≡ used c
+      pub after : us ≡ toks text table n next
+      pub inside : next ≤ n
 
-  arguments-at : (p : Places) → Found p → (c : Call) (b : ℕ) (us : List Token) → call b (toks text table n at) ≡ ok c us → Arguments b (toks text table n (p .equal + 3)) (c .args)
-  arguments-at p f c b us h =
-      let w = call-parts b (toks text table n at) c us h in
-      record { behind = w .behind; read = ap (row plain (commas rightRound) (argument b)) (inside p f b c us w) ∙ w .read }
+    pub call-ends : (e close next : ℕ) → FoundEqual e → (b : ℕ)
+        →
+        ((xs : List Arg) (us : List Token) → row plain (commas rightRound) (argument b) (toks text table n (e + 3)) ≡ ok xs us
+        → (us ≡ toks text table n (close + 1)) × (close < n))
+        → next ≡ cond (begins semicolon (toks text table n (close + 1))) (close + 2) (close + 1) → (c : Call) (us : List Token)
+        → call b (toks text table n at) ≡ ok c us → CallEnds e close next c us
+    call-ends e close to f b closes q c us h =
+        let w = call-parts b (tk at) c us h in
+        let k = closes (c .args) (w .behind) (read-there e f b c us w) in
+        let a = after-is e f b c us w close to k q in
+        record { uses = uses-are e f b c us w close to k q; after = a .0; inside = a .1 }
 
-  pub call-at : (p : Places) → Found p → (b : ℕ) (c : Call) (us : List Token) → call b (toks text table n at) ≡ ok c us → CallAt text table n at p c us
-  call-at p f b c us h = call-placed p f b c us (call-parts b (toks text table n at) c us h) (leads-at p f c) (arguments-at p f c)
+    -- how all places are found
+    pub record Found (p : Places) : Type 0 where
+      pub equal-is : FoundEqual (p .equal)
+      pub within : min (p .equal + 3) n ≤ p .close
+      pub right : p .close ≤ n
+      pub close-is : toks text table n (p .close) ≡ fromClose 1 (toks text table n (p .equal + 3))
+      pub next-is : p .next ≡ cond (begins semicolon (toks text table n (p .close + 1))) (p .close + 2) (p .close + 1)
+
+    pub found-in : (p : Places) → at ≤ n → Found p → PlacesInside n at p
+    found-in p l f =
+        let g = f .equal-is in
+        record {
+          from = g .from;
+          left = g .left;
+          right = f .right;
+          on = let a = f .within in let b = g .left in let w = next-after (toks text table n (p .close + 1)) (p .close) (p .next) (f .next-is) in omega arith;
+          past = next-after (toks text table n (p .close + 1)) (p .close) (p .next) (f .next-is);
+        }
+
+    pub call-at : (p : Places) → Found p → (b : ℕ) (c : Call) (us : List Token) → call b (toks text table n at) ≡ ok c us → CallAt text table n at p c us
+    call-at p f b c us h =
+        let g = call-from (p .equal) (f .equal-is) b c us h in
+        let e = call-ends (p .equal) (p .close) (p .next) (f .equal-is) b (λ xs ws r. closes-at b (p .equal + 3) xs ws r (p .close) (f .close-is)) (f .next-is)
+        c us h in
+        record {
+          first = g .first;
+          leads = g .leads;
+          assigns = g .assigns;
+          title = g .title;
+          uses = e .uses;
+          arguments = g .arguments;
+          after = e .after;
+          inside = (g .inside .0, g .inside .1, e .inside);
+        }

@@ -1,44 +1,48 @@
--- The faults of a call under a list: what the look-up of its operation makes of them, and the walk over all calls.
--- Relies on `Declared`, `Lookups` and `DocumentFaults`.
+-- The faults of a call under a list: what the look-up of its operation makes of them, and both parts of a declared one.
 use mathlib.Core.Path.{_≡_, refl, sym, ap, ap₂, _∙_}
 use mathlib.Core.Bool.{Bool, true, false, not}
-use mathlib.Core.List.{List, [], _∷_, _++_, flatMap}
+use mathlib.Core.List.{List, [], _∷_, _++_}
 use mathlib.Core.Option.{Option, some}
 use mathlib.Core.Option.{none as nothing}
-use Prim.Native.Nat.{ℕ, _+_, _-_, _<_, _≤_}
-use Rattle.lexis.specs.Sizes.{maxBrackets}
+use Prim.Native.Nat.{ℕ, _+_}
 use Rattle.lexis.specs.Lexer.{Token}
 use Rattle.syntax.specs.Tree.{Value, Header, Call}
 use Rattle.lexis.specs.Symbol.{aName, leftRound, rightRound}
 use Rattle.syntax.specs.Parser.{expect, plain, row, argument, left, call}
 use Rattle.syntax.specs.Parser.Parse.{ok}
 use Rattle.syntax.specs.Parser.Row.{commas}
-use Rattle.syntax.specs.Table.{startAt, tokenAt, toks}
+use Rattle.syntax.specs.Table.{startAt, tokenAt}
 use Rattle.lists.specs.Fault.{Fault, fault, unless, earlier, first}
 use Rattle.lists.specs.Names.{startOf}
 use Rattle.lists.specs.Reading.{fits, resultType}
 use Rattle.lists.specs.Found.{find}
 use Rattle.lists.specs.Walks.{when}
 use Rattle.lists.proofs.First.{first-append}
-use Rattle.lists.proofs.Bests.{walk-start, walk-on, walk-end}
 use Rattle.documents.specs.DocumentRules.{byOperation, undeclared, argumentFaults, unmatched, boundAt, leftFaults}
-use Rattle.documents.specs.Calls.{Calls, CallAt}
+use Rattle.documents.specs.Calls.{CallFrom}
 use Rattle.documents.specs.Operations.{operationFaults}
-use Rattle.documents.specs.declared.calls.Places.{Places}
 use Rattle.documents.proofs.CallParses.{then-ok}
-use Rattle.documents.proofs.Lookups.{calls-more, calls-none}
 
 -- ---- one call
 
 -- an undeclared operation: 15 alone
 pub unknown : (hs : List Header) (c : Call) → find hs (c .op) ≡ nothing → first (operationFaults hs c) ≡ some (fault 15 (c .op .start))
 unfolding operationFaults undeclared argumentFaults unmatched first
-unknown hs c e = ap (λ (o : Option Header). first (byOperation o (λ h. []) (fault 15 (c .op .start) ∷ []) ++ (byOperation o (λ h. boundAt (c .op .start) h c) [] ++ byOperation o (λ h. leftFaults h c) []))) e
+unknown hs c e =
+    ap
+    (λ (o : Option Header). first
+    (byOperation o (λ h. []) (fault 15 (c .op .start) ∷ []) ++ (byOperation o (λ h. boundAt (c .op .start) h c) [] ++ byOperation o (λ h. leftFaults h c) [])))
+    e
 
 -- a declared one: those of its header
-pub known : (hs : List Header) (c : Call) (h : Header) → find hs (c .op) ≡ some h → first (operationFaults hs c) ≡ first (boundAt (c .op .start) h c ++ leftFaults h c)
+pub known : (hs : List Header) (c : Call) (h : Header) → find hs (c .op) ≡ some h
+    → first (operationFaults hs c) ≡ first (boundAt (c .op .start) h c ++ leftFaults h c)
 unfolding operationFaults undeclared argumentFaults unmatched
-known hs c h e = ap (λ (o : Option Header). first (byOperation o (λ h. []) (fault 15 (c .op .start) ∷ []) ++ (byOperation o (λ h. boundAt (c .op .start) h c) [] ++ byOperation o (λ h. leftFaults h c) []))) e
+known hs c h e =
+    ap
+    (λ (o : Option Header). first
+    (byOperation o (λ h. []) (fault 15 (c .op .start) ∷ []) ++ (byOperation o (λ h. boundAt (c .op .start) h c) [] ++ byOperation o (λ h. leftFaults h c) [])))
+    e
 
 -- the left side of a call
 pub record Left (b : ℕ) (ts : List Token) (v : Value) : Type 0 where
@@ -56,13 +60,13 @@ call-left b ts c us e =
     let made : l .0 ≡ c .left = ap (λ (x : Call). x .left) whole in
     record { behind = l .1; read = l .2 ∙ ap (λ (v : Value). ok v (l .1)) made }
 
-when-not : (b : Bool) (x : Fault) → when (not b) x ≡ unless b x
+pub when-not : (b : Bool) (x : Fault) → when (not b) x ≡ unless b x
 when-not true x = refl
 when-not false x = refl
 
 -- both parts together
-module _ (text table : List ℕ) (n at : ℕ) (p : Places) (c : Call) (us : List Token) (w : CallAt text table n at p c us) where
-  pub started : startAt table (p .equal + 1) ≡ c .op .start
+module _ (text table : List ℕ) (n at equal : ℕ) (c : Call) (w : CallFrom text table n at equal c) where
+  pub started : startAt table (equal + 1) ≡ c .op .start
   unfolding tokenAt
   started = ap (λ (t : Token). t .start) (w .title)
 
@@ -70,42 +74,11 @@ module _ (text table : List ℕ) (n at : ℕ) (p : Places) (c : Call) (us : List
   unfolding tokenAt
   begun = ap (λ (t : Token). t .start) (w .first)
 
-  pub declared-sum : (h : Header) {x y z : Option Fault} {m : Bool} {place s : ℕ} → x ≡ first (boundAt place h c) → place ≡ startAt table (p .equal + 1) → m ≡ fits (c .left) (resultType (h .results))
+  pub declared-sum : (h : Header) {x y z : Option Fault} {m : Bool} {place s : ℕ} → x ≡ first (boundAt place h c) → place ≡ startAt table (equal + 1)
+      → m ≡ fits (c .left) (resultType (h .results))
       → y ≡ first (when (not m) (fault 20 s)) → s ≡ startAt table at → z ≡ earlier x y → z ≡ first (boundAt (c .op .start) h c ++ leftFaults h c)
   declared-sum h {m = m} {s = s} e o f g d k =
       k
-      ∙ ap₂ earlier (e ∙ ap (λ (j : ℕ). first (boundAt j h c)) (o ∙ started)) (g ∙ ap first (when-not m (fault 20 s)) ∙ ap₂ (λ (b : Bool) (j : ℕ). first (unless b (fault 20 j))) f (d ∙ begun))
+      ∙ ap₂ earlier (e ∙ ap (λ (j : ℕ). first (boundAt j h c)) (o ∙ started))
+      (g ∙ ap first (when-not m (fault 20 s)) ∙ ap₂ (λ (b : Bool) (j : ℕ). first (unless b (fault 20 j))) f (d ∙ begun))
       ∙ sym (first-append (boundAt (c .op .start) h c) (leftFaults h c))
-
--- ---- all calls
-
-module _ (text table : List ℕ) (n end : ℕ) (hs : List Header) where
-  -- at place i, after calls whose first fault is `best`
-  pub record Using (i : ℕ) (cs : List Call) (best : Option Fault) : Type 0 where
-    pub left : List Call
-    pub calls : Calls maxBrackets (toks text table n i) left (toks text table n end)
-    pub same : first (flatMap (operationFaults hs) cs) ≡ earlier best (first (flatMap (operationFaults hs) left))
-
-  pub using-start : (i : ℕ) (cs : List Call) {best : Option Fault} → best ≡ nothing → Calls maxBrackets (toks text table n i) cs (toks text table n end) → Using i cs best
-  using-start i cs e h = record { left = cs; calls = h; same = walk-start e refl }
-
-  pub using-next : (i : ℕ) (cs : List Call) (p : Places) {best here best' : Option Fault} → i < end → end ≤ n
-      → ((b : ℕ) (c : Call) (us : List Token) → call b (toks text table n i) ≡ ok c us → CallAt text table n i p c us)
-      → ((c : Call) (us : List Token) → call maxBrackets (toks text table n i) ≡ ok c us → CallAt text table n i p c us → here ≡ first (operationFaults hs c))
-      → best' ≡ earlier best here → Using i cs best → Using (p .next) cs best'
-  unfolding flatMap
-  using-next i cs p {best} {here} h l at f e w =
-      let m = calls-more text table n end maxBrackets i (w .left) h l (w .calls) in
-      let a = at maxBrackets (m .one) (m .after) (m .is) in
-      record {
-        left = m .others;
-        calls = rw (a .after) at (m .on);
-        same =
-            walk-on best (first (operationFaults hs (m .one))) (first (flatMap (operationFaults hs) (m .others))) (w .same)
-            (ap (λ (x : List Call). first (flatMap (operationFaults hs) x)) (m .whole) ∙ first-append (operationFaults hs (m .one)) (flatMap (operationFaults hs) (m .others)))
-            (f (m .one) (m .after) (m .is) a) e;
-      }
-
-  pub using-end : (i : ℕ) (cs : List Call) {best : Option Fault} → end ≤ i → Using i cs best → best ≡ first (flatMap (operationFaults hs) cs)
-  unfolding flatMap first
-  using-end i cs {best} h w = walk-end best (w .same) (ap (λ (x : List Call). first (flatMap (operationFaults hs) x)) (calls-none text table n end maxBrackets i (w .left) h (w .calls)))

@@ -1,37 +1,30 @@
--- The header that a look-up finds: where its parameters and its results begin in the list's table. Relies on `HeaderLayout` for the
--- tokens and on `Faultless` for what a list without faults says.
+-- The header that a look-up finds, and where its parameters begin in the list's table. Relies on `Faultless` for what a list without faults says.
 use mathlib.Core.Path.{_≡_, refl, sym, ap, _∙_}
 use mathlib.Core.Bool.{Bool, true, false, cond, false≢true}
 use mathlib.Core.List.{List, [], _∷_, _++_, flatMap}
 use mathlib.Core.Option.{Option, some}
 use mathlib.Core.Option.{none as nothing}
-use Prim.Native.Nat.{ℕ, zero, suc, _+_, _-_, _<_, _≤_}
+use Prim.Native.Nat.{ℕ, suc, _+_, _-_, _<_}
 use native.Mathlib.Omega.{arith}
 use lib.ListN.{length, getD, length-map}
-use borrow.Author.Tests.{ne-eqb}
 use Rattle.lexis.specs.Words.{sameBytes}
 use Rattle.lexis.specs.Lexer.{Token}
-use Rattle.lexis.specs.Symbol.{symOf, leftRound, rightRound, arrow}
-use Rattle.syntax.specs.Tree.{Param, Header}
-use Rattle.syntax.specs.Parser.{rest, plain, row, param, result, header}
+use Rattle.lexis.specs.Symbol.{rightRound}
+use Rattle.syntax.specs.Tree.{Header}
+use Rattle.syntax.specs.Parser.{rest, plain, row, param, header}
 use Rattle.syntax.specs.Parser.Parse.{ok}
 use Rattle.syntax.specs.Parser.Row.{commas}
 use Rattle.syntax.specs.Table.{tokenAt, toks}
-use Rattle.syntax.proofs.Table.{toks-length, toks-rest}
-use Rattle.syntax.proofs.Shrinks.{param-shrinks}
+use Rattle.syntax.proofs.Table.{toks-rest}
 use Rattle.lists.specs.Fault.{first}
 use Rattle.lists.specs.Reading.{isSome}
 use Rattle.lists.specs.Found.{operationOf, find, indexOf, found}
-use Rattle.lists.specs.Lists.{headerFaults, Heads, no-head, a-head, NamePlaces, lookupFrom, entries}
-use Rattle.lists.specs.declared.operation.Lookup.{Lookup}
-use Rattle.lists.specs.declared.operation.Lookup.the-variants.{At, Missing}
+use Rattle.lists.specs.Lists.{headerFaults, Heads, no-head, a-head, lookupFrom, entries}
+use Rattle.lists.specs.declared.directory.Lookup.{Lookup}
+use Rattle.lists.specs.declared.directory.Lookup.the-variants.{At, Missing}
 use Rattle.lists.proofs.First.{first-append}
 use Rattle.lists.proofs.HeaderParses.{IsHeader, header-ok}
-use Rattle.lists.proofs.HeaderLayout.{stops-at, run-from, row-run, param-lays, arrow-not}
-use Rattle.lists.specs.Scans.{fromSymbol}
-use Rattle.lists.proofs.HeaderScans.{from-over}
 use Rattle.lists.proofs.Faultless.{neither}
-use Rattle.documents.specs.Operations.{Opened}
 
 -- ---- one header
 
@@ -50,11 +43,6 @@ module _ (text table : List ℕ) (n b q : ℕ) (positive : 0 < q) {h : Header} {
       let e : q + 2 ≡ q + 1 + 1 = omega arith in
       ap (λ (k : ℕ). toks text table n k) e ∙ sym (toks-rest text table n (q + 1)) ∙ ap rest bracket
 
-  pub begins-within : q + 2 ≤ n
-  begins-within =
-      let l : length (toks text table n (q - 1)) ≡ suc (suc (suc (length (parts .listed)))) = ap (λ (ts : List Token). length ts) (parts .is) in
-      omega (arith, toks-length text table n (q - 1))
-
   -- its parameters, and what is left after them
   pub left-over : List Token
   left-over = parts .sign ∷ parts .second ∷ parts .given
@@ -62,23 +50,6 @@ module _ (text table : List ℕ) (n b q : ℕ) (positive : 0 < q) {h : Header} {
   pub params-read : row plain (commas rightRound) (param b) (toks text table n (q + 2)) ≡ ok (h .params) left-over
   unfolding left-over
   params-read = ap (row plain (commas rightRound) (param b)) inner ∙ parts .the-params
-
-  -- its results, two places behind the arrow
-  pub results-read : (a : ℕ) → toks text table n a ≡ fromSymbol arrow (toks text table n (q + 1)) → row plain (commas rightRound) (result b) (toks text table n (a + 2)) ≡ ok (h .results) us
-  results-read a e =
-      let x : toks text table n a ≡ parts .sign ∷ parts .second ∷ parts .given =
-      e
-      ∙ ap (fromSymbol arrow) bracket
-      ∙ from-over arrow (parts .opening) (parts .listed) (ne-eqb (symOf (parts .opening)) arrow (λ z. other (sym (parts .opens) ∙ z)))
-      ∙ run-from arrow (λ z. omega arith) arrow-not (row-run (param b) (λ (p : Param). p .name) (param-shrinks b) (param-lays b) (h .params) (parts .listed) (parts .the-params))
-      ∙ stops-at arrow (parts .sign) (parts .second ∷ parts .given) (parts .an-arrow) .after in
-      let k : a + 2 ≡ a + 1 + 1 = omega arith in
-      ap (row plain (commas rightRound) (result b))
-      (ap (λ (j : ℕ). toks text table n j) k ∙ sym (toks-rest text table n (a + 1)) ∙ ap rest (sym (toks-rest text table n a) ∙ ap rest x))
-      ∙ parts .the-results
-    where
-      other : leftRound ≡ arrow → ⊥
-      other z = omega arith
 
 -- ---- the header that is found
 
@@ -103,7 +74,8 @@ found-missing hs t {r} e q = go (find hs t) refl (sym q ∙ e)
   where
     go : (o : Option Header) → find hs t ≡ o → Missing ≡ cond (isSome (find hs t)) (At (indexOf hs t)) Missing → find hs t ≡ nothing
     go nothing p k = p
-    go (some h) p k = let w = k ∙ ap (λ (x : Option Header). cond (isSome x) (At (indexOf hs t)) Missing) p in let z : _≡_ {A = ℕ} 0 1 = cc in absurd (omega arith)
+    go (some h) p k =
+        let w = k ∙ ap (λ (x : Option Header). cond (isSome x) (At (indexOf hs t)) Missing) p in let z : _≡_ {A = ℕ} 0 1 = cc in absurd (omega arith)
 
 pub found-some : (hs : List Header) (t : Token) {r : Lookup} {k : ℕ} → r ≡ found hs t → r ≡ At k → (isSome (find hs t) ≡ true) × (k ≡ indexOf hs t)
 unfolding found
@@ -151,15 +123,8 @@ module _ (text table : List ℕ) (n b : ℕ) where
             own = λ z. i .own (sides z .1);
           }
 
-  pub head-found : {qs : List ℕ} {hs : List Header} (t : Token) {r : Lookup} {k : ℕ} → Heads text table n b qs hs → r ≡ found hs t → r ≡ At k → HeadAt (getD qs k 0) hs t
+  pub head-found : {qs : List ℕ} {hs : List Header} (t : Token) {r : Lookup} {k : ℕ} → Heads text table n b qs hs → r ≡ found hs t → r ≡ At k
+      → HeadAt (getD qs k 0) hs t
   head-found {qs} {hs} t {k = k} w e q =
       let s = found-some hs t e q in
       rw (s .1) (head-there t w (s .0))
-
-  pub heads-open : {qs : List ℕ} {hs : List Header} → NamePlaces n qs → Heads text table n b qs hs → Opened n qs
-  heads-open {qs} {hs} p w = record { within = λ i l. go w p i l }
-    where
-      go : {ps : List ℕ} {gs : List Header} → Heads text table n b ps gs → NamePlaces n ps → (i : ℕ) → i < length ps → getD ps i 0 + 2 ≤ n
-      go no-head p i l = absurd (omega arith)
-      go (a-head {q = q} r d w) p zero l = begins-within text table n b q (p .below 0 (omega arith) .1) r
-      go (a-head {q = q} r d w) p (suc i) l = go w (record { below = λ j m. p .below (suc j) (omega arith) }) i (omega arith)

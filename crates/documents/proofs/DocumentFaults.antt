@@ -1,21 +1,14 @@
 -- The first fault of a document: the earlier of those that need no list and those of each call that need it. What a document without
 -- faults has. Relies on `First`, `ListFaults` and `Faultless` of lists.
 use mathlib.Core.Path.{_≡_, refl, sym, ap, ap₂, _∙_}
-use mathlib.Core.List.{List, [], _∷_, _++_, map, flatMap, flatten}
+use mathlib.Core.List.{List, [], _∷_, _++_, flatMap, flatten}
 use mathlib.Core.Option.{Option}
 use mathlib.Core.Option.{none as nothing}
-use Prim.Native.Nat.{ℕ, _≤_}
-use native.Mathlib.Omega.{arith}
-use lib.ListN.{length, take, drop, length-map}
-use Rattle.lexis.specs.Sizes.{maxInputs, maxOutputs, maxCalls, maxAssigned, maxUses}
-use Rattle.lexis.specs.Lexer.{Token}
 use Rattle.syntax.specs.Tree.{Header, Call, Document}
-use Rattle.lists.specs.Fault.{Fault, starts, earlier, first}
-use Rattle.lists.specs.Names.{startOf, allAssigned, allUsed}
-use Rattle.lists.specs.ListRules.{over}
+use Rattle.lists.specs.Fault.{Fault, earlier, first}
 use Rattle.lists.proofs.First.{first-append, first-none, earlier-assoc, earlier-comm}
 use Rattle.lists.proofs.ListFaults.{flat-two}
-use Rattle.lists.proofs.Faultless.{neither, none-beyond, no-faults}
+use Rattle.lists.proofs.Faultless.{neither}
 use Rattle.documents.specs.Wiring.{again, unwired, misfed, unmade}
 use Rattle.documents.specs.DocumentRules.{badVersion, documentCounts, graphRepeats, undeclared, argumentFaults, unmatched, documentFaults}
 use Rattle.documents.specs.Walks.{ownFaults}
@@ -23,7 +16,9 @@ use Rattle.documents.specs.Operations.{operationFaults}
 
 -- ---- all faults of a document
 
-calls-parts : (hs : List Header) (cs : List Call) → first (flatMap (operationFaults hs) cs) ≡ earlier (first (flatMap (undeclared hs) cs)) (earlier (first (flatMap (argumentFaults hs) cs)) (first (flatMap (unmatched hs) cs)))
+calls-parts : (hs : List Header) (cs : List Call)
+    → first (flatMap (operationFaults hs) cs) ≡ earlier (first (flatMap (undeclared hs) cs))
+    (earlier (first (flatMap (argumentFaults hs) cs)) (first (flatMap (unmatched hs) cs)))
 unfolding operationFaults flatMap
 calls-parts hs cs =
     ap (λ (xs : List Fault). first xs) (same cs)
@@ -44,7 +39,8 @@ regroup a b c u v w r =
     ∙ ap (earlier a) (sym (earlier-assoc b (earlier c r) (earlier u (earlier v w))))
     ∙ sym (earlier-assoc a (earlier b (earlier c r)) (earlier u (earlier v w)))
 
-pub document-parts : (hs : List Header) (d : Document) → first (documentFaults hs d) ≡ earlier (first (ownFaults d)) (first (flatMap (operationFaults hs) (d .calls)))
+pub document-parts : (hs : List Header) (d : Document)
+    → first (documentFaults hs d) ≡ earlier (first (ownFaults d)) (first (flatMap (operationFaults hs) (d .calls)))
 unfolding documentFaults ownFaults flatten
 document-parts hs d =
     let a = badVersion d in
@@ -55,49 +51,20 @@ document-parts hs d =
     let w = flatMap (unmatched hs) (d .calls) in
     let r = again d ++ (unwired d ++ (misfed d ++ (unmade d ++ []))) in
     first-append a (b ++ (c ++ (u ++ (v ++ (w ++ r)))))
-    ∙ ap (earlier (first a)) (first-append b (c ++ (u ++ (v ++ (w ++ r)))) ∙ ap (earlier (first b)) (first-append c (u ++ (v ++ (w ++ r))) ∙ ap (earlier (first c)) (first-append u (v ++ (w ++ r)) ∙ ap (earlier (first u)) (first-append v (w ++ r) ∙ ap (earlier (first v)) (first-append w r)))))
+    ∙ ap (earlier (first a))
+    (first-append b (c ++ (u ++ (v ++ (w ++ r))))
+    ∙ ap (earlier (first b))
+    (first-append c (u ++ (v ++ (w ++ r)))
+    ∙ ap (earlier (first c)) (first-append u (v ++ (w ++ r)) ∙ ap (earlier (first u)) (first-append v (w ++ r) ∙ ap (earlier (first v)) (first-append w r)))))
     ∙ regroup (first a) (first b) (first c) (first u) (first v) (first w) (first r)
-    ∙ sym (ap₂ earlier (first-append a (b ++ (c ++ r)) ∙ ap (earlier (first a)) (first-append b (c ++ r) ∙ ap (earlier (first b)) (first-append c r))) (calls-parts hs (d .calls)))
+    ∙ sym
+    (ap₂ earlier (first-append a (b ++ (c ++ r)) ∙ ap (earlier (first a)) (first-append b (c ++ r) ∙ ap (earlier (first b)) (first-append c r)))
+    (calls-parts hs (d .calls)))
 
--- ---- a document without faults has few calls and uses
+-- ---- a document without faults uses only what is assigned before
 
 sides : (xs ys : List Fault) → first (xs ++ ys) ≡ nothing → (first xs ≡ nothing) × (first ys ≡ nothing)
 sides xs ys h = neither (first xs) (first ys) (sym (first-append xs ys) ∙ h)
-
-within-size : (size : ℕ) (ps : List ℕ) → first (over size ps) ≡ nothing → length ps ≤ size
-within-size size ps h = none-beyond size ps (no-faults 12 (take 1 (drop size ps)) (first-none (over size ps) h))
-
-counts-none : (hs : List Header) (d : Document) → first (documentFaults hs d) ≡ nothing → first (documentCounts d) ≡ nothing
-unfolding ownFaults flatten
-counts-none hs d h =
-    let o = neither (first (ownFaults d)) (first (flatMap (operationFaults hs) (d .calls))) (sym (document-parts hs d) ∙ h) .0 in
-    let r = graphRepeats d ++ (again d ++ (unwired d ++ (misfed d ++ (unmade d ++ [])))) in
-    sides (documentCounts d) r (sides (badVersion d) (documentCounts d ++ r) o .1) .0
-
--- the counts of calls and uses
-last-counts : (d : Document) → first (documentCounts d) ≡ nothing
-    → (first (over maxCalls (map (λ (c : Call). startOf (c .left)) (d .calls))) ≡ nothing) × (first (over maxUses (starts (allUsed (d .calls)))) ≡ nothing)
-unfolding documentCounts flatten
-last-counts d h =
-    let e = over maxUses (starts (allUsed (d .calls))) ++ [] in
-    let a = over maxAssigned (starts (allAssigned (d .calls))) ++ e in
-    let c = over maxCalls (map (λ (c : Call). startOf (c .left)) (d .calls)) ++ a in
-    let o = over maxOutputs (starts (d .outputs)) ++ c in
-    let x = sides (over maxOutputs (starts (d .outputs))) c (sides (over maxInputs (starts (d .inputs))) o h .1) .1 in
-    let y = sides (over maxCalls (map (λ (c : Call). startOf (c .left)) (d .calls))) a x in
-    (y .0, sides (over maxUses (starts (allUsed (d .calls)))) [] (sides (over maxAssigned (starts (allAssigned (d .calls)))) e (y .1) .1) .0)
-
-pub few-calls : (hs : List Header) (d : Document) → first (documentFaults hs d) ≡ nothing → length (d .calls) ≤ maxCalls
-few-calls hs d h =
-    let n = within-size maxCalls (map (λ (c : Call). startOf (c .left)) (d .calls)) (last-counts d (counts-none hs d h) .0) in
-    omega (arith, n, length-map (d .calls) (λ (c : Call). startOf (c .left)))
-
-pub few-uses : (hs : List Header) (d : Document) → first (documentFaults hs d) ≡ nothing → length (allUsed (d .calls)) ≤ maxUses
-few-uses hs d h =
-    let n = within-size maxUses (starts (allUsed (d .calls))) (last-counts d (counts-none hs d h) .1) in
-    omega (arith, n, length-map (allUsed (d .calls)) (λ (t : Token). t .start))
-
--- ---- a document without faults uses only what is assigned before
 
 pub unwired-none : (hs : List Header) (d : Document) → first (documentFaults hs d) ≡ nothing → unwired d ≡ []
 unfolding ownFaults flatten

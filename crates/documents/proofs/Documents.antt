@@ -1,5 +1,5 @@
 -- A document that is read from the first token: its parts, and the places at which a flat scan finds them. Assumes nothing.
-use mathlib.Core.Path.{_≡_, refl, sym, ap, ap₂, _∙_}
+use mathlib.Core.Path.{_≡_, refl, sym, ap, _∙_}
 use mathlib.Core.List.{List, [], _∷_, _++_}
 use Prim.Native.Nat.{ℕ, _+_, _-_, _≤_, min}
 use native.Mathlib.Omega.{arith}
@@ -10,8 +10,8 @@ use Rattle.syntax.specs.Grammar.{Separated}
 use Rattle.syntax.specs.Parser.{expect, row, plain, call, atEnd, document}
 use Rattle.syntax.specs.Parser.Parse.{ok}
 use Rattle.syntax.specs.Parser.Row.{commas, closed}
-use Rattle.syntax.specs.Table.{tokenAt, toks}
-use Rattle.syntax.proofs.Table.{toks-more, toks-suffix}
+use Rattle.syntax.specs.Table.{toks}
+use Rattle.syntax.proofs.Table.{toks-suffix}
 use Rattle.syntax.proofs.Tails.{Suffix, Takes, call-tails}
 use Rattle.syntax.proofs.Tails.Suffix.{all, past}
 use Rattle.syntax.proofs.Tails.Takes.{took}
@@ -145,6 +145,7 @@ module _ (text table : List ℕ) (n : ℕ) where
       }
 
   pub record FoundGraph (g : Graph) : Type 0 where
+    pub first-is : g .first ≡ 5
     pub inputs-from : min 5 n ≤ g .inputs
     pub inputs-in : g .inputs ≤ n
     pub inputs-is : tk (g .inputs) ≡ fromSymbol rightRound (tk 5)
@@ -199,7 +200,9 @@ module _ (text table : List ℕ) (n : ℕ) where
     three = omega (arith, f .outputs-from, at-p .inside)
 
     outs : Row (i + 3) c (d .outputs) (w .q ∷ w .third)
-    outs = row-at (i + 3) c (d .outputs) _ three (f .outputs-in) (f .outputs-is) (rw second-at (separated-ok (expect aName) rightRound (w .second) (d .outputs) (w .q ∷ w .third) (w .outputs)))
+    outs =
+        row-at (i + 3) c (d .outputs) _ three (f .outputs-in) (f .outputs-is)
+        (rw second-at (separated-ok (expect aName) rightRound (w .second) (d .outputs) (w .q ∷ w .third) (w .outputs)))
 
     at-q : First text table n (c + 1) (w .q) (w .third)
     at-q = first-of text table n (c + 1) (w .q) _ (outs .here .rest)
@@ -212,24 +215,6 @@ module _ (text table : List ℕ) (n : ℕ) where
         ap (row plain (commas rightRound) (expect aName)) (ap tk (f .begins-is) ∙ second-at)
         ∙ w .outputs
         ∙ ap (λ (x : List Token). ok (d .outputs) x) (sym (outs .here .rest))
-
-    -- from the inputs' closing bracket to the outputs there is no name
-    between : namesAmong (toks text table c i) ≡ namesAmong (toks text table c (i + 3))
-    between =
-        let e1 : toks text table c i ≡ tokenAt text table i ∷ toks text table c (i + 1) = toks-more text table c i (omega (arith, three)) in
-        let e2 : toks text table c (i + 1) ≡ tokenAt text table (i + 1) ∷ toks text table c (i + 1 + 1) = toks-more text table c (i + 1) (omega (arith, three)) in
-        let e3 : toks text table c (i + 1 + 1) ≡ tokenAt text table (i + 1 + 1) ∷ toks text table c (i + 1 + 1 + 1) = toks-more text table c (i + 1 + 1) (omega (arith, three)) in
-        let q : i + 1 + 1 + 1 ≡ i + 3 = omega arith in
-        ap namesAmong e1 ∙ names-past (tokenAt text table i) _ (ap symOf (ins .here .here) ∙ ins .closes) refl
-        ∙ ap namesAmong e2 ∙ names-past (tokenAt text table (i + 1)) _ (ap symOf (at-a .here) ∙ w .arrow-is) refl
-        ∙ ap namesAmong e3 ∙ names-past (tokenAt text table (i + 1 + 1)) _ (ap symOf (at-p .here) ∙ w .open-is) refl
-        ∙ ap (λ (k : ℕ). namesAmong (toks text table c k)) q
-
-    listed-is : namesAmong (toks text table c 5) ≡ d .inputs ++ d .outputs
-    listed-is =
-        ap namesAmong (toks-split text table c 5 i five (omega (arith, three)))
-        ∙ those-append isName (toks text table i 5) (toks text table c i)
-        ∙ ap₂ (λ (x y : List Token). x ++ y) (ins .names) (between ∙ outs .names)
 
     body-at : row plain (closed rightCurly) (call b) (tk (g .body)) ≡ ok (d .calls) []
     body-at = ap (row plain (closed rightCurly) (call b)) third-at ∙ w .body
@@ -245,10 +230,16 @@ module _ (text table : List ℕ) (n : ℕ) where
         record {
           version = at1 .here ∙ w .literal;
           inside = at1 .inside;
-          inputs = ins .names;
+          rising =
+              record {
+                inputs = omega (arith, f .first-is, five);
+                outputs = omega (arith, f .begins-is);
+                closes = omega (arith, f .begins-is, three);
+                body = omega (arith, f .body-is);
+              };
+          inputs = ap (λ (k : ℕ). namesAmong (toks text table i k)) (f .first-is) ∙ ins .names;
           outputs = ap (λ (k : ℕ). namesAmong (toks text table c k)) (f .begins-is) ∙ outs .names;
           returned = returned-is;
-          listed = listed-is;
           body = body-at;
           calls = calls-at;
         }

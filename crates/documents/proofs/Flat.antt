@@ -121,11 +121,14 @@ mutual
   spells-names (a-literal {t = t} {ts} p h) = literal-names t ts h
   spells-names (an-empty-array {o = o} {c} {ts} h k) = names-past o (c ∷ ts) h refl ∙ names-past c ts k refl
   spells-names (an-array {o = o} {ts} h i) = names-past o ts h refl ∙ items-names refl i
-  spells-names (a-tuple {o = o} {c} {ts} {us} {ws} {v} {vs} h s k i) = names-past o ts h refl ∙ part (namesIn v) (namesOf vs) (namesAmong ws) (spells-names s) (names-past c us k refl ∙ items-names refl i)
+  spells-names (a-tuple {o = o} {c} {ts} {us} {ws} {v} {vs} h s k i) =
+      names-past o ts h refl ∙ part (namesIn v) (namesOf vs) (namesAmong ws) (spells-names s) (names-past c us k refl ∙ items-names refl i)
 
-  pub items-names : {m : Leaves} {close b : ℕ} {ts us : List Token} {vs : Values} → eqb close aName ≡ false → Items m close b ts vs us → namesAmong ts ≡ namesOf vs ++ namesAmong us
+  pub items-names : {m : Leaves} {close b : ℕ} {ts us : List Token} {vs : Values} → eqb close aName ≡ false → Items m close b ts vs us
+      → namesAmong ts ≡ namesOf vs ++ namesAmong us
   items-names n (last-item {c = c} {us = us} {v} s k) = alone (namesIn v) (spells-names s) (names-past c us k n)
-  items-names n (next-item {c = c} {us = us} {ws} {v} {vs} s k i) = part (namesIn v) (namesOf vs) (namesAmong ws) (spells-names s) (names-past c us k refl ∙ items-names n i)
+  items-names n (next-item {c = c} {us = us} {ws} {v} {vs} s k i) =
+      part (namesIn v) (namesOf vs) (namesAmong ws) (spells-names s) (names-past c us k refl ∙ items-names n i)
 
 -- no `=` follows
 other-begins : (c : Token) {s : ℕ} → symOf c ≡ s → eqb s equal ≡ false → eqb (symOf c) equal ≡ false
@@ -139,11 +142,15 @@ mutual
   spells-uses (a-literal {t = t} {ts} p h) e = literal-uses t ts h
   spells-uses (an-empty-array {o = o} {c} {ts} h k) e = uses-past o (c ∷ ts) h refl ∙ uses-past c ts k refl
   spells-uses (an-array {o = o} {ts} h i) e = uses-past o ts h refl ∙ items-uses refl refl i
-  spells-uses (a-tuple {o = o} {c} {ts} {us} {ws} {v} {vs} h s k i) e = uses-past o ts h refl ∙ part (namesIn v) (namesOf vs) (usesAmong ws) (spells-uses s (other-begins c k refl)) (uses-past c us k refl ∙ items-uses refl refl i)
+  spells-uses (a-tuple {o = o} {c} {ts} {us} {ws} {v} {vs} h s k i) e =
+      uses-past o ts h refl
+      ∙ part (namesIn v) (namesOf vs) (usesAmong ws) (spells-uses s (other-begins c k refl)) (uses-past c us k refl ∙ items-uses refl refl i)
 
-  items-uses : {m : Leaves} {close b : ℕ} {ts us : List Token} {vs : Values} → eqb close aName ≡ false → eqb close equal ≡ false → Items m close b ts vs us → usesAmong ts ≡ namesOf vs ++ usesAmong us
+  items-uses : {m : Leaves} {close b : ℕ} {ts us : List Token} {vs : Values} → eqb close aName ≡ false → eqb close equal ≡ false → Items m close b ts vs us
+      → usesAmong ts ≡ namesOf vs ++ usesAmong us
   items-uses n o (last-item {c = c} {us = us} {v} s k) = alone (namesIn v) (spells-uses s (other-begins c k o)) (uses-past c us k n)
-  items-uses n o (next-item {c = c} {us = us} {ws} {v} {vs} s k i) = part (namesIn v) (namesOf vs) (usesAmong ws) (spells-uses s (other-begins c k refl)) (uses-past c us k refl ∙ items-uses n o i)
+  items-uses n o (next-item {c = c} {us = us} {ws} {v} {vs} s k i) =
+      part (namesIn v) (namesOf vs) (usesAmong ws) (spells-uses s (other-begins c k refl)) (uses-past c us k refl ∙ items-uses n o i)
 
 -- a scan F comes to a terminal before the tokens us
 pub record Comes (F : List Token → List Token) (close : ℕ) (ts us : List Token) : Type 0 where
@@ -159,8 +166,11 @@ mutual
   spells-equal (a-name {t = t} {ts} p h) = symbol-past t ts h equal refl
   spells-equal (a-literal {t = t} {ts} p h) = literal-symbol t ts h
   spells-equal (an-empty-array {o = o} {c} {ts} h k) = symbol-past o (c ∷ ts) h equal refl ∙ symbol-past c ts k equal refl
-  spells-equal (an-array {o = o} {ts} {us} h i) = let c = items-equal i in symbol-past o ts h equal refl ∙ c .reached ∙ symbol-past (c .token) us (c .closes) equal refl
-  spells-equal (a-tuple {o = o} {c = q} {ts} {us} {ws} h s k i) = let c = items-equal i in symbol-past o ts h equal refl ∙ spells-equal s ∙ symbol-past q us k equal refl ∙ c .reached ∙ symbol-past (c .token) ws (c .closes) equal refl
+  spells-equal (an-array {o = o} {ts} {us} h i) =
+      let c = items-equal i in symbol-past o ts h equal refl ∙ c .reached ∙ symbol-past (c .token) us (c .closes) equal refl
+  spells-equal (a-tuple {o = o} {c = q} {ts} {us} {ws} h s k i) =
+      let c = items-equal i in
+      symbol-past o ts h equal refl ∙ spells-equal s ∙ symbol-past q us k equal refl ∙ c .reached ∙ symbol-past (c .token) ws (c .closes) equal refl
 
   items-equal : {m : Leaves} {close b : ℕ} {ts us : List Token} {vs : Values} → Items m close b ts vs us → Comes (fromSymbol equal) close ts us
   items-equal (last-item {c = c} s k) = record { token = c; closes = k; reached = spells-equal s }
@@ -173,10 +183,12 @@ mutual
   spells-close k (a-name {t = t} {ts} p h) = close-past t ts h (suc k) k refl
   spells-close k (a-literal {t = t} {ts} p h) = literal-close t ts h k
   spells-close k (an-empty-array {o = o} {c} {ts} h e) = close-past o (c ∷ ts) h (suc k) (suc k) refl ∙ close-past c ts e (suc (suc k)) k refl
-  spells-close k (an-array {o = o} {ts} {us} h i) = let c = items-close (suc k) i in close-past o ts h (suc k) (suc k) refl ∙ c .reached ∙ close-past (c .token) us (c .closes) (suc (suc k)) k refl
+  spells-close k (an-array {o = o} {ts} {us} h i) =
+      let c = items-close (suc k) i in close-past o ts h (suc k) (suc k) refl ∙ c .reached ∙ close-past (c .token) us (c .closes) (suc (suc k)) k refl
   spells-close k (a-tuple {o = o} {c = q} {ts} {us} {ws} h s e i) =
       let c = items-close (suc k) i in
-      close-past o ts h (suc k) (suc k) refl ∙ spells-close (suc k) s ∙ close-past q us e (suc (suc k)) (suc k) refl ∙ c .reached ∙ close-past (c .token) ws (c .closes) (suc (suc k)) k refl
+      close-past o ts h (suc k) (suc k) refl ∙ spells-close (suc k) s ∙ close-past q us e (suc (suc k)) (suc k) refl ∙ c .reached
+      ∙ close-past (c .token) ws (c .closes) (suc (suc k)) k refl
 
   items-close : {m : Leaves} {close b : ℕ} {ts us : List Token} {vs : Values} → (k : ℕ) → Items m close b ts vs us → Comes (fromClose (suc k)) close ts us
   items-close k (last-item {c = c} s e) = record { token = c; closes = e; reached = spells-close k s }
@@ -192,7 +204,8 @@ left-equal (a-bare-tuple {t = t} {c} {ts} {us} s h i) = before us (spells-equal 
 pub left-names : {b : ℕ} {ts us : List Token} {v : Value} → IsLeft b ts v us → namesAmong ts ≡ namesIn v ++ namesAmong us
 unfolding namesIn namesOf
 left-names (one-pattern {e = e} {us = us} {v} s h) = spells-names s ∙ ap (λ (l : List Token). namesIn v ++ l) (names-past e us h refl)
-left-names (a-bare-tuple {c = c} {us = us} {ws} {v} {vs} s h i) = part (namesIn v) (namesOf vs) (namesAmong ws) (spells-names s) (names-past c us h refl ∙ items-names refl i)
+left-names (a-bare-tuple {c = c} {us = us} {ws} {v} {vs} s h i) =
+    part (namesIn v) (namesOf vs) (namesAmong ws) (spells-names s) (names-past c us h refl ∙ items-names refl i)
 
 -- the first token of a left side
 pub record Starts (v : Value) (ts : List Token) : Type 0 where
@@ -222,7 +235,8 @@ usesOf xs = flatMap (λ (a : Arg). namesIn (valueOf a)) xs
 pub arguments-uses : {b : ℕ} {ts us : List Token} {xs : List Arg} → Separated (IsArg b) rightRound ts xs us → usesAmong ts ≡ usesOf xs ++ usesAmong us
 unfolding flatMap
 arguments-uses (last {c = c} {us = us} {a = x} h e) = alone (namesIn (valueOf x)) (argument-uses h (other-begins c e refl)) (uses-past c us e refl)
-arguments-uses (next {c = c} {us = us} {ws} {a = x} {xs} h e r) = part (namesIn (valueOf x)) (usesOf xs) (usesAmong ws) (argument-uses h (other-begins c e refl)) (uses-past c us e refl ∙ arguments-uses r)
+arguments-uses (next {c = c} {us = us} {ws} {a = x} {xs} h e r) =
+    part (namesIn (valueOf x)) (usesOf xs) (usesAmong ws) (argument-uses h (other-begins c e refl)) (uses-past c us e refl ∙ arguments-uses r)
 
 argument-close : {b : ℕ} {ts us : List Token} {x : Arg} → IsArg b ts x us → fromClose 1 ts ≡ fromClose 1 us
 unfolding openAfter
@@ -242,11 +256,18 @@ close-here t ts h = simp h
 
 -- ---- rows of names
 
-module _ {Item : List Token → Token → List Token → Type 0} (is : (ts : List Token) (t : Token) (us : List Token) → Item ts t us → (ts ≡ t ∷ us) × (symOf t ≡ aName)) where
+module _ {Item : List Token → Token → List Token → Type 0}
+    (is : (ts : List Token) (t : Token) (us : List Token) → Item ts t us → (ts ≡ t ∷ us) × (symOf t ≡ aName)) where
   pub row-names : {ts us : List Token} {xs : List Token} → Separated Item rightRound ts xs us → namesAmong ts ≡ xs ++ namesAmong us
-  row-names {ts} (last {c = c} {us = us} {a = t} h e) = let p = is ts t (c ∷ us) h in ap namesAmong (p .0) ∙ names-here t (c ∷ us) (p .1) ∙ ap (λ (l : List Token). t ∷ l) (names-past c us e refl)
-  row-names {ts} (next {c = c} {us = us} {a = t} h e r) = let p = is ts t (c ∷ us) h in ap namesAmong (p .0) ∙ names-here t (c ∷ us) (p .1) ∙ ap (λ (l : List Token). t ∷ l) (names-past c us e refl ∙ row-names r)
+  row-names {ts} (last {c = c} {us = us} {a = t} h e) =
+      let p = is ts t (c ∷ us) h in ap namesAmong (p .0) ∙ names-here t (c ∷ us) (p .1) ∙ ap (λ (l : List Token). t ∷ l) (names-past c us e refl)
+  row-names {ts} (next {c = c} {us = us} {a = t} h e r) =
+      let p = is ts t (c ∷ us) h in ap namesAmong (p .0) ∙ names-here t (c ∷ us) (p .1) ∙ ap (λ (l : List Token). t ∷ l) (names-past c us e refl ∙ row-names r)
 
   pub row-close : {ts us : List Token} {xs : List Token} → Separated Item rightRound ts xs us → Comes (fromSymbol rightRound) rightRound ts us
-  row-close {ts} (last {c = c} {us = us} {a = t} h e) = let p = is ts t (c ∷ us) h in record { token = c; closes = e; reached = ap (fromSymbol rightRound) (p .0) ∙ symbol-past t (c ∷ us) (p .1) rightRound refl }
-  row-close {ts} (next {c = c} {us = us} {a = t} h e r) = let p = is ts t (c ∷ us) h in before us (ap (fromSymbol rightRound) (p .0) ∙ symbol-past t (c ∷ us) (p .1) rightRound refl ∙ symbol-past c us e rightRound refl) (row-close r)
+  row-close {ts} (last {c = c} {us = us} {a = t} h e) =
+      let p = is ts t (c ∷ us) h in
+      record { token = c; closes = e; reached = ap (fromSymbol rightRound) (p .0) ∙ symbol-past t (c ∷ us) (p .1) rightRound refl }
+  row-close {ts} (next {c = c} {us = us} {a = t} h e r) =
+      let p = is ts t (c ∷ us) h in
+      before us (ap (fromSymbol rightRound) (p .0) ∙ symbol-past t (c ∷ us) (p .1) rightRound refl ∙ symbol-past c us e rightRound refl) (row-close r)

@@ -30,7 +30,8 @@ use Rattle.syntax.proofs.Rows.{Sound}
 use Rattle.lists.specs.Reading.{isSome}
 use Rattle.documents.specs.declared.parameter.Next.{Next}
 use Rattle.documents.specs.declared.parameter.Next.the-variants.{Item, End}
-use Rattle.documents.specs.Arguments.{isRequired, GoesOn, Ahead}
+use Rattle.lists.specs.Masks.{isRequired}
+use Rattle.documents.specs.Arguments.{GoesOn, Ahead}
 use Rattle.documents.specs.Arguments.GoesOn.{more, last}
 use Rattle.documents.proofs.RowParses.{mapped-ok, Rowed, row-ok, IsParam, param-ok}
 use Rattle.documents.proofs.RowParses.Rowed.{next}
@@ -43,7 +44,7 @@ clash z = absurd (omega arith)
 -- ---- answers of readers
 
 -- a reader that read a tree has not answered a fault
-no-fault : {A X : Type 0} (e n : ℕ) {p : Parse A} {a : A} {us : List Token} {x : Parsed} {c q : ℕ} → x ≡ parsed e n p → x ≡ Fault c q → p ≡ ok a us → X
+pub no-fault : {A X : Type 0} (e n : ℕ) {p : Parse A} {a : A} {us : List Token} {x : Parsed} {c q : ℕ} → x ≡ parsed e n p → x ≡ Fault c q → p ≡ ok a us → X
 no-fault e n first fell h = let z = sym fell ∙ (first ∙ ap (parsed e n) h) in clash cc
 
 -- what it leaves are the tokens from the place that it has reached
@@ -59,8 +60,10 @@ left-at {A} tails text table e n i {a} {us} {j = j} first reached h =
 
 -- ---- rows
 
-module _ {A : Type 0} {item : Reader A} (good : Sound item) (text table : List ℕ) (e n i : ℕ) {x : Parsed} (first : x ≡ parsed e n (item (toks text table n i))) where
-  pub no-item : {c q : ℕ} (r : Next) → x ≡ Fault c q → (xs : List A) (ws : List Token) → row plain (commas rightRound) item (toks text table n i) ≡ ok xs ws → GoesOn item text table n i xs ws r
+module _ {A : Type 0} {item : Reader A} (good : Sound item) (text table : List ℕ) (e n i : ℕ) {x : Parsed}
+    (first : x ≡ parsed e n (item (toks text table n i))) where
+  pub no-item : {c q : ℕ} (r : Next) → x ≡ Fault c q → (xs : List A) (ws : List Token) → row plain (commas rightRound) item (toks text table n i) ≡ ok xs ws
+      → GoesOn item text table n i xs ws r
   no-item r f xs ws h = go (row-ok rightRound item (good .small) (toks text table n i) h)
     where
       go : {ys : List A} → Rowed rightRound item (toks text table n i) ws ys → GoesOn item text table n i xs ws r
@@ -71,14 +74,16 @@ module _ {A : Type 0} {item : Reader A} (good : Sound item) (text table : List �
     sees-left : {a : A} {us : List Token} → item (toks text table n i) ≡ ok a us → s ≡ lookahead us
     sees-left k = sees ∙ ap lookahead (sym (left-at (good .tails) text table e n i first reached k))
 
-    pub last-item : (s ≡ comma → ⊥) → (xs : List A) (ws : List Token) → row plain (commas rightRound) item (toks text table n i) ≡ ok xs ws → GoesOn item text table n i xs ws End
+    pub last-item : (s ≡ comma → ⊥) → (xs : List A) (ws : List Token) → row plain (commas rightRound) item (toks text table n i) ≡ ok xs ws
+        → GoesOn item text table n i xs ws End
     last-item w xs ws h = go (row-ok rightRound item (good .small) (toks text table n i) h)
       where
         go : {ys : List A} → Rowed rightRound item (toks text table n i) ws ys → GoesOn item text table n i ys ws End
         go (row-last k c) = last refl k
         go (next k c m) = absurd (w (sees-left k ∙ c))
 
-    pub more-items : s ≡ comma → (xs : List A) (ws : List Token) → row plain (commas rightRound) item (toks text table n i) ≡ ok xs ws → GoesOn item text table n i xs ws (Item (j + 1))
+    pub more-items : s ≡ comma → (xs : List A) (ws : List Token) → row plain (commas rightRound) item (toks text table n i) ≡ ok xs ws
+        → GoesOn item text table n i xs ws (Item (j + 1))
     more-items w xs ws h = go (row-ok rightRound item (good .small) (toks text table n i) h)
       where
         go : {ys : List A} → Rowed rightRound item (toks text table n i) ws ys → GoesOn item text table n i ys ws (Item (j + 1))
@@ -120,7 +125,8 @@ module _ (text table : List ℕ) (n i : ℕ) {p : Param} {us : List Token} (h : 
   typed-is : parts .typed ≡ toks text table n (i + 2)
   typed-is =
       let q : i + 1 + 1 ≡ i + 2 = omega arith in
-      sym (ap (λ (ts : List Token). rest (rest ts)) (parts .is)) ∙ ap rest (toks-rest text table n i) ∙ toks-rest text table n (i + 1) ∙ ap (λ (k : ℕ). toks text table n k) q
+      sym (ap (λ (ts : List Token). rest (rest ts)) (parts .is)) ∙ ap rest (toks-rest text table n i) ∙ toks-rest text table n (i + 1)
+      ∙ ap (λ (k : ℕ). toks text table n k) q
 
   pub param-type : type maxBrackets (toks text table n (i + 2)) ≡ ok (p .ty) (parts .valued)
   param-type = ap (type maxBrackets) (sym typed-is) ∙ parts .a-type

@@ -27,7 +27,8 @@ use Rattle.lists.proofs.Faultless.{neither, own-clean, few-params}
 use Rattle.lists.proofs.Members.{Each, each-append, HasDefault}
 use Rattle.lists.proofs.Lines.{OnLine, each-map, each-flat, each-flatten, each-those, each-repeats, fault-lined, starts-lined, over-lined, unless-lined}
 use Rattle.documents.specs.Code as Code
-use Rattle.documents.specs.Binding.{leading, labels, byPlace, later, byName, orElse, Slot, slotsFrom, slots, taken, takesPlace, misplacedFrom, misplaced, misnamed, misfit, misfits, isMissing, lacked, missing}
+use Rattle.documents.specs.Binding.{leading, labels, byPlace, later, byName, orElse, Slot, slotsFrom, slots, taken, takesPlace, misplacedFrom, misplaced}
+use Rattle.documents.specs.Binding.{misnamed, misfit, misfits, isMissing, lacked, missing}
 use Rattle.documents.specs.Wiring.{strangers, again, unwiredAfter, isExternal, misfedBy, misfed, unmade}
 use Rattle.documents.specs.DocumentRules.{badVersion, documentCounts, graphRepeats, byOperation, undeclared, argumentFaults, unmatched, documentFaults}
 use Rattle.documents.proofs.Members.{HasArg, HasCall, HasDocument}
@@ -60,7 +61,10 @@ all-few hs e = go hs (own-clean hs e)
   where
     go : (gs : List Header) → first (flatMap L.headerFaults gs) ≡ nothing → Each FewParams gs
     go [] e = tt
-    go (g ∷ gs) e = let x = neither (first (L.headerFaults g)) (first (flatMap L.headerFaults gs)) (sym (first-append (L.headerFaults g) (flatMap L.headerFaults gs)) ∙ e) in (few-params g (x .0), go gs (x .1))
+    go (g ∷ gs) e =
+        let x = neither (first (L.headerFaults g)) (first (flatMap L.headerFaults gs)) (sym (first-append (L.headerFaults g) (flatMap L.headerFaults gs)) ∙ e)
+        in
+        (few-params g (x .0), go gs (x .1))
 
 found-few : (hs : List Header) (t : Token) (h : Header) → Each FewParams hs → find hs t ≡ some h → FewParams h
 unfolding operationOf
@@ -105,7 +109,8 @@ module _ (At : ℕ → Type 0) where
       go true r = g .0 .value .first
       go false r = r
 
-  slot-places : (ps : List Param) (vs : List Value) (xs : List Arg) → Each Valued vs → Each (HasArg Place) xs → Each (λ (s : Slot). HasDefault Place (s .value)) (slotsFrom ps vs xs)
+  slot-places : (ps : List Param) (vs : List Value) (xs : List Arg) → Each Valued vs → Each (HasArg Place) xs
+      → Each (λ (s : Slot). HasDefault Place (s .value)) (slotsFrom ps vs xs)
   unfolding slotsFrom
   slot-places [] vs xs k g = tt
   slot-places (p ∷ ps) vs xs k g = (go vs k, slot-places ps (later vs) xs (rest vs k) g)
@@ -146,7 +151,9 @@ module _ (At : ℕ → Type 0) where
 
   misfits-lined : (ss : List Slot) → Each (λ (s : Slot). HasDefault Place (s .value)) ss → InDocument (misfits ss)
   unfolding misfits
-  misfits-lined ss g = each-flat (λ (s : Slot). HasDefault Place (s .value)) (OnLine DocumentCode At) (λ (s : Slot). misfit (s .param .ty) (s .value)) (λ s k. one (s .param .ty) (s .value) k) ss g
+  misfits-lined ss g =
+      each-flat (λ (s : Slot). HasDefault Place (s .value)) (OnLine DocumentCode At) (λ (s : Slot). misfit (s .param .ty) (s .value))
+      (λ s k. one (s .param .ty) (s .value) k) ss g
     where
       one : (u : Ty) (o : Option Value) → HasDefault Place o → InDocument (misfit u o)
       one u nothing k = tt
@@ -157,7 +164,8 @@ module _ (At : ℕ → Type 0) where
   missing-lined place k [] g l = tt
   missing-lined place k (s ∷ ss) g l = go (isMissing s) (missing-lined place (suc k) ss g (omega (arith, l)))
     where
-      go : (b : Bool) → InDocument (lacked place (suc k) (map isMissing ss)) → InDocument (cond b (record { at = place; code = Code.unbound; detail = k } ∷ []) (lacked place (suc k) (map isMissing ss)))
+      go : (b : Bool) → InDocument (lacked place (suc k) (map isMissing ss))
+          → InDocument (cond b (record { at = place; code = Code.unbound; detail = k } ∷ []) (lacked place (suc k) (map isMissing ss)))
       go true r = (record { code = is-unbound {k = k} (omega (arith, l)); place = g }, tt)
       go false r = r
 
@@ -182,7 +190,10 @@ module _ (At : ℕ → Type 0) where
     arguments-lined c g = go (find hs (c .op)) refl
       where
         bound : Header → List Fault
-        bound h = flatten (misplaced (h .params) (c .args) ∷ misnamed (h .params) (c .args) ∷ misfits (slots (h .params) (c .args)) ∷ missing (c .op .start) (slots (h .params) (c .args)) ∷ [])
+        bound h =
+            flatten
+            (misplaced (h .params) (c .args) ∷ misnamed (h .params) (c .args) ∷ misfits (slots (h .params) (c .args))
+            ∷ missing (c .op .start) (slots (h .params) (c .args)) ∷ [])
 
         go : (o : Option Header) → find hs (c .op) ≡ o → InDocument (byOperation o bound [])
         go nothing e = tt
@@ -190,7 +201,8 @@ module _ (At : ℕ → Type 0) where
             let ss = slots (h .params) (c .args) in
             let l = slots-count (h .params) (leading (c .args)) (c .args) in
             let m = found-few hs (c .op) h few e in
-            each-flatten (OnLine DocumentCode At) (misplaced (h .params) (c .args) ∷ misnamed (h .params) (c .args) ∷ misfits ss ∷ missing (c .op .start) ss ∷ []) (
+            each-flatten (OnLine DocumentCode At)
+            (misplaced (h .params) (c .args) ∷ misnamed (h .params) (c .args) ∷ misfits ss ∷ missing (c .op .start) ss ∷ []) (
               misplaced-lined true (h .params) (c .args) (g .args),
               (
                 misnamed-lined (h .params) (c .args) (g .args),
@@ -205,7 +217,8 @@ module _ (At : ℕ → Type 0) where
     unfolding unmatched
     unmatched-lined c g = go (find hs (c .op))
       where
-        go : (o : Option Header) → InDocument (byOperation o (λ h. unless (fits (c .left) (resultType (h .results))) (fault Code.unmatched (startOf (c .left)))) [])
+        go : (o : Option Header)
+            → InDocument (byOperation o (λ h. unless (fits (c .left) (resultType (h .results))) (fault Code.unmatched (startOf (c .left)))) [])
         go nothing = tt
         go (some h) = unless-lined DocumentCode At (fits (c .left) (resultType (h .results))) Code.unmatched (startOf (c .left)) is-unmatched (g .left .first)
 
@@ -226,11 +239,14 @@ module _ (At : ℕ → Type 0) where
     unwired-lined known [] g = tt
     unwired-lined known (c ∷ cs) g =
         each-append (OnLine DocumentCode At) (faults Code.unassignedUse (starts (strangers known (used c)))) (unwiredAfter (known ++ assigned c) cs)
-        (starts-lined DocumentCode At Code.unassignedUse (strangers known (used c)) unassigned-use (each-those Place _ (used c) (used-places c (g .0)))) (unwired-lined (known ++ assigned c) cs (g .1))
+        (starts-lined DocumentCode At Code.unassignedUse (strangers known (used c)) unassigned-use (each-those Place _ (used c) (used-places c (g .0))))
+        (unwired-lined (known ++ assigned c) cs (g .1))
 
     fed-lined : (inputs : List Token) (c : Call) → HasCall Place c → InDocument (misfedBy inputs c)
     unfolding misfedBy
-    fed-lined inputs c g = starts-lined DocumentCode At Code.misfed (cond (isExternal c) (strangers inputs (assigned c)) (those (isAmong inputs) (assigned c))) is-misfed (go (isExternal c))
+    fed-lined inputs c g =
+        starts-lined DocumentCode At Code.misfed (cond (isExternal c) (strangers inputs (assigned c)) (those (isAmong inputs) (assigned c))) is-misfed
+        (go (isExternal c))
       where
         go : (b : Bool) → Each Place (cond b (strangers inputs (assigned c)) (those (isAmong inputs) (assigned c)))
         go true = each-those Place _ (assigned c) (g .left .names)
@@ -284,17 +300,23 @@ module _ (At : ℕ → Type 0) where
 
     again-lined : (d : Document) → HasDocument Place d → InDocument (again d)
     unfolding again
-    again-lined d g = starts-lined DocumentCode At Code.assignedAgain (repeats (allAssigned (d .calls))) assigned-again (each-repeats Place [] (allAssigned (d .calls)) (all-assigned (d .calls) (g .calls)))
+    again-lined d g =
+        starts-lined DocumentCode At Code.assignedAgain (repeats (allAssigned (d .calls))) assigned-again
+        (each-repeats Place [] (allAssigned (d .calls)) (all-assigned (d .calls) (g .calls)))
 
     unmade-lined : (d : Document) → HasDocument Place d → InDocument (unmade d)
     unfolding unmade
-    unmade-lined d g = starts-lined DocumentCode At Code.unassignedOutput (strangers (allAssigned (d .calls)) (d .outputs)) unassigned-output (each-those Place _ (d .outputs) (g .outputs))
+    unmade-lined d g =
+        starts-lined DocumentCode At Code.unassignedOutput (strangers (allAssigned (d .calls)) (d .outputs)) unassigned-output
+        (each-those Place _ (d .outputs) (g .outputs))
 
     version-lined : (d : Document) → HasDocument Place d → InDocument (badVersion d)
     unfolding badVersion
-    version-lined d g = unless-lined DocumentCode At (sameBytes (d .version .bytes) (ascii "1.0")) Code.wrongVersion (d .version .start) wrong-version (g .version)
+    version-lined d g =
+        unless-lined DocumentCode At (sameBytes (d .version .bytes) (ascii "1.0")) Code.wrongVersion (d .version .start) wrong-version (g .version)
 
-    flat-lined : (f : Call → List Fault) → ((c : Call) → HasCall Place c → InDocument (f c)) → (d : Document) → HasDocument Place d → InDocument (flatMap f (d .calls))
+    flat-lined : (f : Call → List Fault) → ((c : Call) → HasCall Place c → InDocument (f c)) → (d : Document) → HasDocument Place d
+        → InDocument (flatMap f (d .calls))
     flat-lined f h d g = each-flat (HasCall Place) (OnLine DocumentCode At) f h (d .calls) (g .calls)
 
     all-lined : (d : Document) → HasDocument Place d → InDocument (documentFaults hs d)
@@ -341,5 +363,6 @@ module _ (At : ℕ → Type 0) where
         )
 
   -- under a list without faults
-  pub document-lined : (hs : List Header) → first (listFaults hs) ≡ nothing → (d : Document) → HasDocument (λ t. At (t .start)) d → Each (OnLine DocumentCode At) (documentFaults hs d)
+  pub document-lined : (hs : List Header) → first (listFaults hs) ≡ nothing → (d : Document) → HasDocument (λ t. At (t .start)) d
+      → Each (OnLine DocumentCode At) (documentFaults hs d)
   document-lined hs e d g = all-lined hs (all-few hs e) d g

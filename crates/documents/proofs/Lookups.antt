@@ -1,9 +1,8 @@
--- The search for the call that assigns an identifier, call by call; and calls up to a place: there is one more as long as the place is
--- not reached. Assumes nothing.
-use mathlib.Core.Path.{_≡_, refl, sym, ap, ap₂, _∙_}
-use mathlib.Core.Bool.{Bool, true, false, cond, _||_}
-use mathlib.Core.List.{List, [], _∷_, _++_, flatMap}
-use Prim.Native.Nat.{ℕ, suc, _+_, _-_, _≤_, _<_}
+-- Names among others, and calls up to a place: there is one more as long as the place is not reached. Assumes nothing.
+use mathlib.Core.Path.{_≡_, refl, sym, ap, _∙_}
+use mathlib.Core.Bool.{Bool, true, false, _||_}
+use mathlib.Core.List.{List, [], _∷_, _++_}
+use Prim.Native.Nat.{ℕ, _≤_, _<_}
 use native.Mathlib.Nat.{le-refl}
 use native.Mathlib.Omega.{arith}
 use lib.ListN.{length}
@@ -17,21 +16,9 @@ use Rattle.syntax.proofs.Row.{Left}
 use Rattle.syntax.proofs.Row.Left.{fewer}
 use Rattle.syntax.proofs.Shrinks.{call-shrinks}
 use Rattle.syntax.proofs.Table.{toks-length}
-use Rattle.lists.specs.Names.{isAmong, assigned, allAssigned}
-use Rattle.lists.specs.Scans.{namesAmong}
-use Rattle.documents.specs.Tables.{assigner}
-use Rattle.documents.specs.Lookup.{assignerOf}
-use Rattle.documents.specs.Calls.{Calls, CallAt}
+use Rattle.lists.specs.Names.{isAmong}
+use Rattle.documents.specs.Calls.{Calls}
 use Rattle.documents.specs.Calls.Calls.{no-call, a-call}
-use Rattle.documents.specs.declared.calls.Places.{Places}
-use Rattle.documents.specs.declared.wiring.Assigner.{Assigner}
-use Rattle.documents.specs.declared.wiring.Assigner.the-variants as A
-
--- ---- the first that assigns it
-
-unfoldable pub lookFrom : ℕ → List Call → Token → Assigner
-lookFrom k [] t = A.Nobody
-lookFrom k (c ∷ cs) t = let r = lookFrom (k + 1) cs t in cond (isAmong (assigned c) t) (A.Call k) r
 
 pub among-append : (ss ts : List Token) (t : Token) → isAmong (ss ++ ts) t ≡ (isAmong ss t || isAmong ts t)
 unfolding isAmong
@@ -41,46 +28,6 @@ among-append (s ∷ ss) ts t = go (sameBytes (s .bytes) (t .bytes)) (among-appen
     go : (b : Bool) → isAmong (ss ++ ts) t ≡ (isAmong ss t || isAmong ts t) → (b || isAmong (ss ++ ts) t) ≡ ((b || isAmong ss t) || isAmong ts t)
     go true e = refl
     go false e = e
-
-look-from : (k : ℕ) (cs : List Call) (t : Token) → lookFrom k cs t ≡ cond (isAmong (allAssigned cs) t) (A.Call (k + assigner cs t)) A.Nobody
-unfolding lookFrom allAssigned flatMap isAmong assigner
-look-from k [] t = refl
-look-from k (c ∷ cs) t = go (isAmong (assigned c) t) refl (isAmong (allAssigned cs) t) refl (look-from (k + 1) cs t)
-  where
-    go : (p : Bool) → isAmong (assigned c) t ≡ p → (q : Bool) → isAmong (allAssigned cs) t ≡ q → lookFrom (k + 1) cs t ≡ cond (isAmong (allAssigned cs) t) (A.Call (k + 1 + assigner cs t)) A.Nobody
-        → cond (isAmong (assigned c) t) (A.Call k) (lookFrom (k + 1) cs t) ≡ cond (isAmong (assigned c ++ allAssigned cs) t) (A.Call (k + cond (isAmong (assigned c) t) 0 (suc (assigner cs t)))) A.Nobody
-    go true p q r e =
-        let z : k ≡ k + 0 = omega arith in
-        ap (λ (b : Bool). cond b (A.Call k) (lookFrom (k + 1) cs t)) p
-        ∙ ap A.Call z
-        ∙ sym (ap₂ (λ (x y : Bool). cond x (A.Call (k + cond y 0 (suc (assigner cs t)))) A.Nobody) (among-append (assigned c) (allAssigned cs) t ∙ ap (λ (b : Bool). b || isAmong (allAssigned cs) t) p) p)
-    go false p q r e =
-        let z : k + 1 + assigner cs t ≡ k + suc (assigner cs t) = omega arith in
-        ap (λ (b : Bool). cond b (A.Call k) (lookFrom (k + 1) cs t)) p
-        ∙ e
-        ∙ ap (λ (m : ℕ). cond (isAmong (allAssigned cs) t) (A.Call m) A.Nobody) z
-        ∙ sym (ap₂ (λ (x y : Bool). cond x (A.Call (k + cond y 0 (suc (assigner cs t)))) A.Nobody) (among-append (assigned c) (allAssigned cs) t ∙ ap (λ (b : Bool). b || isAmong (allAssigned cs) t) p) p)
-
-look-is : (cs : List Call) (t : Token) → lookFrom 0 cs t ≡ assignerOf cs t
-unfolding assignerOf
-look-is cs t = let z : 0 + assigner cs t ≡ assigner cs t = omega arith in look-from 0 cs t ∙ ap (λ (m : ℕ). cond (isAmong (allAssigned cs) t) (A.Call m) A.Nobody) z
-
--- what the answers say
-pub assigner-known : (cs : List Call) (t : Token) {r : Assigner} {k : ℕ} → r ≡ assignerOf cs t → r ≡ A.Call k → (isAmong (allAssigned cs) t ≡ true) × (k ≡ assigner cs t)
-unfolding assignerOf
-assigner-known cs t {r} {k} e q = go (isAmong (allAssigned cs) t) refl (sym q ∙ e)
-  where
-    go : (b : Bool) → isAmong (allAssigned cs) t ≡ b → A.Call k ≡ cond b (A.Call (assigner cs t)) A.Nobody → (isAmong (allAssigned cs) t ≡ true) × (k ≡ assigner cs t)
-    go true h z = let w : k ≡ assigner cs t = cc in (h, w)
-    go false h z = let w : _≡_ {A = ℕ} 0 1 = cc in absurd (omega arith)
-
-pub assigner-none : (cs : List Call) (t : Token) {r : Assigner} → r ≡ assignerOf cs t → r ≡ A.Nobody → isAmong (allAssigned cs) t ≡ false
-unfolding assignerOf
-assigner-none cs t {r} e q = go (isAmong (allAssigned cs) t) refl (sym q ∙ e)
-  where
-    go : (b : Bool) → isAmong (allAssigned cs) t ≡ b → A.Nobody ≡ cond b (A.Call (assigner cs t)) A.Nobody → isAmong (allAssigned cs) t ≡ false
-    go true h z = let w : _≡_ {A = ℕ} 0 1 = cc in absurd (omega arith)
-    go false h z = h
 
 -- ---- calls up to a place
 
@@ -128,37 +75,3 @@ module _ (text table : List ℕ) (n until : ℕ) where
           let x = ap (λ (x : List Token). length x) p in
           let y = ap (λ (x : List Token). length x) q in
           absurd (omega arith)
-
-  -- ---- the walk
-
-  -- what is left of the search at place i, after k calls
-  pub record Looking (b i k : ℕ) (cs : List Call) (t : Token) : Type 0 where
-    pub left : List Call
-    pub calls : Calls b (toks text table n i) left (toks text table n until)
-    pub same : lookFrom 0 cs t ≡ lookFrom k left t
-
-  pub look-start : (b i : ℕ) (cs : List Call) (t : Token) → Calls b (toks text table n i) cs (toks text table n until) → Looking b i 0 cs t
-  look-start b i cs t h = record { left = cs; calls = h; same = refl }
-
-  module _ (b i k : ℕ) (cs : List Call) (t : Token) (p : Places) (at : (b : ℕ) (c : Call) (us : List Token) → call b (toks text table n i) ≡ ok c us → CallAt text table n i p c us) (h : i < until) (l : until ≤ n) (w : Looking b i k cs t) where
-    pub look-here : isAmong (namesAmong (toks text table (p .equal) i)) t ≡ true → A.Call k ≡ assignerOf cs t
-    unfolding lookFrom
-    look-here e =
-        let m = calls-more b i (w .left) h l (w .calls) in
-        let a = at b (m .one) (m .after) (m .is) in
-        sym (sym (look-is cs t) ∙ w .same ∙ ap (λ (x : List Call). lookFrom k x t) (m .whole) ∙ ap (λ (b : Bool). cond b (A.Call k) (lookFrom (k + 1) (m .others) t)) (ap (λ (x : List Token). isAmong x t) (sym (a .assigns)) ∙ e))
-
-    pub look-next : isAmong (namesAmong (toks text table (p .equal) i)) t ≡ false → Looking b (p .next) (k + 1) cs t
-    unfolding lookFrom
-    look-next e =
-        let m = calls-more b i (w .left) h l (w .calls) in
-        let a = at b (m .one) (m .after) (m .is) in
-        record {
-          left = m .others;
-          calls = rw (a .after) at (m .on);
-          same = w .same ∙ ap (λ (x : List Call). lookFrom k x t) (m .whole) ∙ ap (λ (b : Bool). cond b (A.Call k) (lookFrom (k + 1) (m .others) t)) (ap (λ (x : List Token). isAmong x t) (sym (a .assigns)) ∙ e);
-        }
-
-  pub look-end : (b i k : ℕ) (cs : List Call) (t : Token) → until ≤ i → Looking b i k cs t → A.Nobody ≡ assignerOf cs t
-  unfolding lookFrom
-  look-end b i k cs t h w = sym (sym (look-is cs t) ∙ w .same ∙ ap (λ (x : List Call). lookFrom k x t) (calls-none b i (w .left) h (w .calls)))

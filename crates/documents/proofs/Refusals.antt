@@ -23,24 +23,30 @@ use Rattle.lists.proofs.Refusals.{Refusal, refusal, refusal-high, list-refusal,
 use Rattle.documents.specs.DocumentRules.{documentFaults}
 use Rattle.documents.specs.Answer.{documentStages, Checked, bothStages}
 use Rattle.documents.proofs.Members.{document-good}
-use Rattle.documents.proofs.Lines.{DocumentCode, wrong-version, over-size, repeated-name, is-undeclared, is-misplaced, is-misnamed, is-misfit, is-unbound, is-unmatched, assigned-again, unassigned-use, is-misfed, unassigned-output, document-lined}
+use Rattle.documents.proofs.Lines.{DocumentCode, wrong-version, over-size, repeated-name, is-undeclared, is-misplaced, is-misnamed, is-misfit}
+use Rattle.documents.proofs.Lines.{is-unbound, is-unmatched, assigned-again, unassigned-use, is-misfed, unassigned-output, document-lined}
 
-pub document-refusal : (hs : List Header) (doc : List ℕ) (r : Answer) → first (listFaults hs) ≡ nothing → documentStages hs doc ≡ stop r → Refusal IsDocument DocumentCode 2 doc r
+pub document-refusal : (hs : List Header) (doc : List ℕ) (r : Answer) → first (listFaults hs) ≡ nothing → documentStages hs doc ≡ stop r
+    → Refusal IsDocument DocumentCode 2 doc r
 unfolding documentStages
 document-refusal hs doc r c e =
     refusal IsDocument DocumentCode 2 doc (document maxBrackets) (documentFaults hs) (document-fault maxBrackets) (document-bracket maxBrackets)
-    (λ ts us d q g. document-lined (StartsToken doc) hs c d (document-good (λ t. StartsToken doc (t .start)) (document-parsed maxBrackets ts d .0 (q ∙ ap (ok d) (document-all-read maxBrackets ts d us q))) g)) r e
+    (λ ts us d q g. document-lined (StartsToken doc) hs c d
+    (document-good (λ t. StartsToken doc (t .start)) (document-parsed maxBrackets ts d .0 (q ∙ ap (ok d) (document-all-read maxBrackets ts d us q))) g))
+    r e
 
 pub both-refusal : (list doc : List ℕ) (r : Answer) → bothStages list doc ≡ stop r → Refusal IsList ListCode 1 list r ⊎ Refusal IsDocument DocumentCode 2 doc r
 unfolding bothStages listStages first
 both-refusal list doc r h = go (listStages list) refl h
   where
-    inner : (hs : List Header) → first (listFaults hs) ≡ nothing → (s : Stage Document) → documentStages hs doc ≡ s → andThen {B = Checked} s (λ d. pass (record { headers = hs; document = d })) ≡ stop r
+    inner : (hs : List Header) → first (listFaults hs) ≡ nothing → (s : Stage Document) → documentStages hs doc ≡ s
+        → andThen {B = Checked} s (λ d. pass (record { headers = hs; document = d })) ≡ stop r
         → Refusal IsDocument DocumentCode 2 doc r
     inner hs c (pass d) e k = let z : _≡_ {A = ℕ} 0 1 = cc in absurd (omega arith)
     inner hs c (stop q) e k = let z : q ≡ r = cc in document-refusal hs doc r c (e ∙ ap (λ (x : Answer). stop x) z)
 
-    go : (s : Stage (List Header)) → listStages list ≡ s → andThen s (λ hs. andThen {B = Checked} (documentStages hs doc) (λ d. pass (record { headers = hs; document = d }))) ≡ stop r
+    go : (s : Stage (List Header)) → listStages list ≡ s
+        → andThen s (λ hs. andThen {B = Checked} (documentStages hs doc) (λ d. pass (record { headers = hs; document = d }))) ≡ stop r
         → Refusal IsList ListCode 1 list r ⊎ Refusal IsDocument DocumentCode 2 doc r
     go (pass hs) e k = inr (inner hs (ap first (passed 1 (operations maxBrackets) listFaults list hs e .lawful)) (documentStages hs doc) refl k)
     go (stop q) e k = let z : q ≡ r = cc in inl (list-refusal list r (e ∙ ap (λ (x : Answer). stop x) z))

@@ -86,29 +86,40 @@ module _ (text table : List ℕ) (n i : ℕ) where
   unfolding fromSymbol
   find-next s h e q =
       let k = ne-eqb (symOf (tokenAt text table i)) s (λ z. q (e ∙ look-here h ∙ z)) in
-      ap (fromSymbol s) (toks-more text table n i h) ∙ ap (λ (b : Bool). cond b (tokenAt text table i ∷ toks text table n (i + 1)) (fromSymbol s (toks text table n (i + 1)))) k
+      ap (fromSymbol s) (toks-more text table n i h)
+      ∙ ap (λ (b : Bool). cond b (tokenAt text table i ∷ toks text table n (i + 1)) (fromSymbol s (toks text table n (i + 1)))) k
 
   pub find-end : (s : ℕ) → n ≤ i → toks text table n n ≡ fromSymbol s here
   unfolding fromSymbol
   find-end s h = toks-none text table n n (omega arith) ∙ sym (ap (fromSymbol s) (toks-none text table n i h))
 
-  close-step : (k : ℕ) → i < n → fromClose k here ≡ cond (eqb (openAfter k (lookahead here)) 0) (toks text table n i) (fromClose (openAfter k (lookahead here)) (toks text table n (i + 1)))
+  close-step : (k : ℕ) → i < n
+      → fromClose k here ≡ cond (eqb (openAfter k (lookahead here)) 0) (toks text table n i)
+      (fromClose (openAfter k (lookahead here)) (toks text table n (i + 1)))
   unfolding fromClose
   close-step k h =
       let m = toks-more text table n i h in
       ap (fromClose k) m
-      ∙ ap (λ (l : List Token). cond (eqb (openAfter k (symOf (tokenAt text table i))) 0) l (fromClose (openAfter k (symOf (tokenAt text table i))) (toks text table n (i + 1)))) (sym m)
+      ∙ ap
+      (λ (l : List Token). cond (eqb (openAfter k (symOf (tokenAt text table i))) 0) l
+      (fromClose (openAfter k (symOf (tokenAt text table i))) (toks text table n (i + 1))))
+      (sym m)
       ∙ ap (λ (x : ℕ). cond (eqb (openAfter k x) 0) (toks text table n i) (fromClose (openAfter k x) (toks text table n (i + 1)))) (sym (look-here h))
 
   module _ (k : ℕ) {x j : ℕ} (h : i < n) (e : x ≡ lookahead here) (q : j ≡ openAfter k x) where
     pub closed-here : j ≡ 0 → toks text table n i ≡ fromClose k here
-    closed-here z = sym (close-step k h ∙ ap (λ (b : Bool). cond b (toks text table n i) (fromClose (openAfter k (lookahead here)) (toks text table n (i + 1)))) (eq-eqb _ 0 (ap (openAfter k) (sym e) ∙ sym q ∙ z)))
+    closed-here z =
+        sym
+        (close-step k h
+        ∙ ap (λ (b : Bool). cond b (toks text table n i) (fromClose (openAfter k (lookahead here)) (toks text table n (i + 1))))
+        (eq-eqb _ 0 (ap (openAfter k) (sym e) ∙ sym q ∙ z)))
 
     pub closed-next : (j ≡ 0 → ⊥) → fromClose k here ≡ fromClose j (toks text table n (i + 1))
     closed-next z =
         let w : openAfter k (lookahead here) ≡ j = ap (openAfter k) (sym e) ∙ sym q in
         close-step k h
-        ∙ ap (λ (b : Bool). cond b (toks text table n i) (fromClose (openAfter k (lookahead here)) (toks text table n (i + 1)))) (ne-eqb (openAfter k (lookahead here)) 0 (λ y. z (sym w ∙ y)))
+        ∙ ap (λ (b : Bool). cond b (toks text table n i) (fromClose (openAfter k (lookahead here)) (toks text table n (i + 1))))
+        (ne-eqb (openAfter k (lookahead here)) 0 (λ y. z (sym w ∙ y)))
         ∙ ap (λ (y : ℕ). fromClose y (toks text table n (i + 1))) w
 
   pub closed-end : (k : ℕ) → n ≤ i → toks text table n n ≡ fromClose k here

@@ -17,14 +17,17 @@ use Rattle.lists.specs.Names.{isAmong}
 use Rattle.lists.specs.Reading.{isSome, allTensor}
 use Rattle.lists.specs.ListRules.{paramNames}
 use Rattle.lists.proofs.First.{earlier-assoc, earlier-comm, first-append}
-use Rattle.documents.specs.Binding.{isMissing, lacked, leading, labels, byPlace, later, byName, orElse, Slot, slotsFrom, slots, taken, takesPlace, misfit, misfits, lacked, missing}
-use Rattle.documents.specs.Arguments.{maskOf, without, isRequired, isBound, bound, leads}
-use Rattle.documents.proofs.Labels.{leading-named, leading-more, leading-same, leading-length, or-else-none, or-else-assoc, or-else-kept, is-none, is-some-or, given, by-name-more, by-name-same, by-name-none}
-use Rattle.documents.proofs.Sought.{same-is, same-sym, alike, None, Only, only-alike, Nth}
+use Rattle.documents.specs.Binding.{isMissing, lacked, leading, labels, byPlace, later, byName, orElse, Slot, slotsFrom, slots, taken, takesPlace}
+use Rattle.documents.specs.Binding.{misfit, misfits, lacked, missing}
+use Rattle.lists.specs.Masks.{maskOf, isRequired}
+use Rattle.documents.specs.Arguments.{without, isBound, bound, leads}
+use Rattle.documents.proofs.Labels.{leading-named, leading-more, leading-same, leading-length, or-else-none, or-else-assoc, or-else-kept, is-none}
+use Rattle.documents.proofs.Labels.{is-some-or, given, by-name-more, by-name-same, by-name-none}
+use Rattle.documents.proofs.Sought.{same-is, same-sym, alike, None, Only, only-alike}
+use Rattle.documents.specs.Tallies.{Nth}
 use Rattle.documents.proofs.Sought.None.{nil, cons}
 use Rattle.documents.proofs.Sought.Only.{here, there}
-use Rattle.documents.proofs.Sought.Nth.{after}
-use Rattle.documents.proofs.Sought.Nth.{first as nth-first}
+use Rattle.documents.specs.Tallies.Nth.{nth-first, after}
 
 -- ---- a slot that is given a value
 
@@ -112,7 +115,9 @@ module _ (v : Value) (xs : List Arg) where
   slots-same : (ps : List Param) (vs : List Value) → slotsFrom ps vs (xs ++ (positional v ∷ [])) ≡ slotsFrom ps vs xs
   unfolding slotsFrom
   slots-same [] vs = refl
-  slots-same (p ∷ ps) vs = ap₂ (λ (ss : List Slot) (o : Option Value). record { param = p; value = orElse (byPlace p vs) o } ∷ ss) (slots-same ps (later vs)) (by-name-same (p .name) xs v)
+  slots-same (p ∷ ps) vs =
+      ap₂ (λ (ss : List Slot) (o : Option Value). record { param = p; value = orElse (byPlace p vs) o } ∷ ss) (slots-same ps (later vs))
+      (by-name-same (p .name) xs v)
 
   slots-refused : (ps : List Param) (vs : List Value) → takesPlace (drop (length vs) ps) ≡ false → slotsFrom ps (vs ++ (v ∷ [])) xs ≡ slotsFrom ps vs xs
   unfolding slotsFrom
@@ -164,7 +169,8 @@ unfolding taken isAmong
 taken-none vs nil = refl
 taken-none {t} vs (cons {p = p} {ps = ps} h n) = go (isSome (byPlace p vs)) h (taken-none (later vs) n)
   where
-    go : (b : Bool) → alike p t ≡ false → isAmong (taken ps (later vs)) t ≡ false → isAmong (cond b (p .name ∷ taken ps (later vs)) (taken ps (later vs))) t ≡ false
+    go : (b : Bool) → alike p t ≡ false → isAmong (taken ps (later vs)) t ≡ false
+        → isAmong (cond b (p .name ∷ taken ps (later vs)) (taken ps (later vs))) t ≡ false
     go true h ih = simp (h, ih)
     go false h ih = ih
 
@@ -189,7 +195,8 @@ unfolding labels isAmong byName
 label-seen n t [] h = refl
 label-seen n t (positional w ∷ xs) h = label-seen n t xs h
 label-seen n t (named s w ∷ xs) h =
-    go (sameBytes (n .bytes) (s .bytes)) (same-sym (s .bytes) (t .bytes) ∙ ap (λ (z : List ℕ). sameBytes z (s .bytes)) (sym (same-is (n .bytes) (t .bytes) h))) (label-seen n t xs h)
+    go (sameBytes (n .bytes) (s .bytes)) (same-sym (s .bytes) (t .bytes) ∙ ap (λ (z : List ℕ). sameBytes z (s .bytes)) (sym (same-is (n .bytes) (t .bytes) h)))
+    (label-seen n t xs h)
   where
     go : (b : Bool) → sameBytes (s .bytes) (t .bytes) ≡ b → isAmong (labels xs) t ≡ isSome (byName n xs)
         → (sameBytes (s .bytes) (t .bytes) || isAmong (labels xs) t) ≡ isSome (cond b (some w) (byName n xs))
@@ -222,7 +229,8 @@ missing-from : (place k : ℕ) (ps : List Param) (vs : List Value) (xs : List Ar
 unfolding lacked slotsFrom without
 missing-from place k [] vs xs = refl
 missing-from place k (p ∷ ps) vs xs =
-    ap₂ (λ (b : Bool) (r : List Fault). cond b (record { at = place; code = 19; detail = k } ∷ []) r) (and-comm (not (isSome (held p vs xs))) (isRequired p)) (missing-from place (suc k) ps (later vs) xs)
+    ap₂ (λ (b : Bool) (r : List Fault). cond b (record { at = place; code = 19; detail = k } ∷ []) r) (and-comm (not (isSome (held p vs xs))) (isRequired p))
+    (missing-from place (suc k) ps (later vs) xs)
 
 pub missing-is : (place : ℕ) (ps : List Param) (xs : List Arg) → missing place (slots ps xs) ≡ lacked place 0 (without (map isRequired ps) (bound ps xs))
 missing-is place ps xs = missing-from place 0 ps (leading xs) xs

@@ -18,6 +18,8 @@ use Rattle.lists.specs.Reading.{allTensor}
 use Rattle.lists.specs.ListRules.{paramNames, headerNames}
 use Rattle.documents.specs.Binding.{takesPlace}
 use Rattle.documents.specs.Arguments.{Indexed, seek}
+use Rattle.documents.specs.Tallies.{Nth}
+use Rattle.documents.specs.Tallies.Nth.{nth-first, after}
 
 -- ---- names of the same bytes
 
@@ -124,6 +126,38 @@ apart-prefix seen (s ∷ ss) rs h =
 pub params-apart : (h : Header) → repeats (headerNames h) ≡ [] → repeats (paramNames (h .params)) ≡ []
 params-apart h e = apart-prefix [] (paramNames (h .params)) (map (λ (r : Result). r .name) (h .results)) e
 
+none-nth : {t : Token} {i : ℕ} {p : Param} {ps : List Param} → None t ps → Nth i p ps → alike p t ≡ false
+none-nth (cons h n) nth-first = h
+none-nth (cons h n) (after k) = none-nth n k
+
+-- no parameter after one of a name has it
+none-after : (t : Token) (seen : List Token) (p : Param) (ps : List Param) → alike p t ≡ true
+    → repeatsAfter (seen ++ (p .name ∷ [])) (paramNames ps) ≡ [] → None t ps
+none-after t seen p ps e d =
+    none-again t (seen ++ (p .name ∷ [])) ps (λ u m.
+    same-sym (u .bytes) (t .bytes)
+    ∙ ap (λ (z : List ℕ). sameBytes z (u .bytes)) (sym (same-is (p .name .bytes) (t .bytes) e))
+    ∙ among-last seen (p .name) u m) d
+
+only-after : (t : Token) (seen : List Token) {i : ℕ} {p : Param} {ps : List Param} → repeatsAfter seen (paramNames ps) ≡ []
+    → alike p t ≡ true → Nth i p ps → Only t i p ps
+only-after t seen {p = p} d e (nth-first {ps = ps}) = let f = fresh seen (p .name) (paramNames ps) d in here e (none-after t seen p ps e (f .rest))
+only-after t seen {p = p} d e (after {j = j} {q = q} {ps = ps} n) =
+    let f = fresh seen (q .name) (paramNames ps) d in go (alike q t) refl (f .rest) (only-after t (seen ++ (q .name ∷ [])) (f .rest) e n)
+  where
+    go : (b : Bool) → alike q t ≡ b → repeatsAfter (seen ++ (q .name ∷ [])) (paramNames ps) ≡ [] → Only t j p ps → Only t (suc j) p (q ∷ ps)
+    go true h f o = absurd (true≢false (sym e ∙ none-nth (none-after t seen q ps h f) n))
+    go false h f o = there h o
+
+-- a parameter of a name is the only one
+pub only-nth : {t : Token} {i : ℕ} {p : Param} {ps : List Param} → repeats (paramNames ps) ≡ [] → alike p t ≡ true → Nth i p ps → Only t i p ps
+only-nth {t} d e n = only-after t [] d e n
+
+-- where no number is that of a parameter of a name
+pub none-of : (t : Token) (ps : List Param) → ((i : ℕ) (p : Param) → Nth i p ps → alike p t ≡ false) → None t ps
+none-of t [] h = nil
+none-of t (p ∷ ps) h = cons (h 0 p nth-first) (none-of t ps (λ i q n. h (suc i) q (after n)))
+
 -- sought by name
 abbrev pub ofName : Token → ℕ → Param → Bool
 ofName t k p = alike p t
@@ -153,11 +187,12 @@ unfolding seek
 seek-after t seen k [] s d h = clash h
 seek-after t seen k (p ∷ ps) s d h = go (alike p t) refl h (fresh seen (p .name) (paramNames ps) d) (seek-after t (seen ++ (p .name ∷ [])) (suc k) ps s)
   where
-    go : (b : Bool) → alike p t ≡ b → cond b (some (record { index = k; param = p })) (seek (ofName t) (suc k) ps) ≡ some s → Fresh seen (p .name) (paramNames ps)
+    go : (b : Bool) → alike p t ≡ b → cond b (some (record { index = k; param = p })) (seek (ofName t) (suc k) ps) ≡ some s
+        → Fresh seen (p .name) (paramNames ps)
         → (repeatsAfter (seen ++ (p .name ∷ [])) (paramNames ps) ≡ [] → seek (ofName t) (suc k) ps ≡ some s → Unique t (suc k) ps s) → Unique t k (p ∷ ps) s
     go true e q f ih =
         let r : record { index = k; param = p } ≡ s = cc in
-        let n = none-again t (seen ++ (p .name ∷ [])) ps (λ u m. same-sym (u .bytes) (t .bytes) ∙ ap (λ (z : List ℕ). sameBytes z (u .bytes)) (sym (same-is (p .name .bytes) (t .bytes) e)) ∙ among-last seen (p .name) u m) (f .rest) in
+        let n = none-after t seen p ps e (f .rest) in
         let i : k ≡ k + 0 = omega arith in
         rw (← r) (record { place = 0; number = i; only = here e n })
     go false e q f ih =
@@ -171,11 +206,6 @@ seek-only t ps s d h =
     rw e (u .only)
 
 -- ---- the parameter at a place
-
--- number j is p
-pub data Nth : ℕ → Param → List Param → Type 0 where
-  first : {p : Param} {ps : List Param} → Nth zero p (p ∷ ps)
-  after : {j : ℕ} {p q : Param} {ps : List Param} → Nth j p ps → Nth (suc j) p (q ∷ ps)
 
 -- sought by place
 abbrev pub ofPlace : ℕ → ℕ → Param → Bool
@@ -198,7 +228,7 @@ seek-from i k (p ∷ ps) s h = go (eqb k i) refl h (seek-from i (suc k) ps s)
         let r : record { index = k; param = p } ≡ s = cc in
         let n : k ≡ k + 0 = omega arith in
         let m : i ≡ k + 0 = omega (arith, eqb-true k i e) in
-        rw (← r) (record { place = 0; number = n; sought = m; nth = first })
+        rw (← r) (record { place = 0; number = n; sought = m; nth = nth-first })
     go false e q ih =
         let u = ih q in
         record { place = suc (u .place); number = omega (arith, u .number); sought = omega (arith, u .sought); nth = after (u .nth) }
@@ -213,7 +243,7 @@ pub seek-number : (i : ℕ) (ps : List Param) (s : Indexed) → seek (ofPlace i)
 seek-number i ps s h = let u = seek-from i 0 ps s h in omega (arith, u .number, u .sought)
 
 pub nth-takes : {j : ℕ} {p : Param} {ps : List Param} → Nth j p ps → takesPlace (drop j ps) ≡ allTensor (p .ty)
-nth-takes first = refl
+nth-takes nth-first = refl
 nth-takes (after h) = nth-takes h
 
 seek-beyond : (i j k : ℕ) (ps : List Param) → i ≡ k + j → seek (ofPlace i) k ps ≡ nothing → takesPlace (drop j ps) ≡ false

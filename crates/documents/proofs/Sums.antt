@@ -18,8 +18,10 @@ use Rattle.lists.specs.Walks.{when, scan, passing, repeating, beyond}
 use Rattle.lists.proofs.First.{first-append, earlier-assoc, earlier-comm, earlier-none}
 use Rattle.lists.proofs.Rules.{interchange, first-scan, scan-one, first-both, passing-is, repeating-is, beyond-is}
 use Rattle.documents.specs.Wiring.{strangers, isExternal, again, unwiredAfter, unwired, misfedBy, misfed, unmade}
-use Rattle.documents.specs.DocumentRules.{badVersion, documentCounts, graphRepeats, undeclared, argumentFaults, unmatched, documentFaults}
+use Rattle.documents.specs.DocumentRules.{badVersion, documentCounts, graphRepeats, documentFaults}
+use Rattle.documents.specs.Operations.{operationFaults}
 use Rattle.documents.specs.Walks.{listing, misfeeds, assigning, consuming, callFaults, bodyFaults, ownFaults}
+use Rattle.documents.proofs.DocumentFaults.{document-parts}
 
 -- ---- sums
 
@@ -43,14 +45,6 @@ unfolding sum
 sums [] ys = refl
 sums (x ∷ xs) ys = earlier-assoc x (sum xs) (sum ys) ∙ ap (earlier x) (sums xs ys)
 
--- some in the middle come last
-middle : (xs bs ys : List (Option Fault)) → sum (xs ++ (bs ++ ys)) ≡ earlier (sum (xs ++ ys)) (sum bs)
-middle xs bs ys =
-    sym (sums xs (bs ++ ys))
-    ∙ ap (earlier (sum xs)) (sym (sums bs ys) ∙ earlier-comm (sum bs) (sum ys))
-    ∙ sym (earlier-assoc (sum xs) (sum ys) (sum bs))
-    ∙ ap (λ (z : Option Fault). earlier z (sum bs)) (sums xs ys)
-
 first-flatten : (xss : List (List Fault)) → first (flatten xss) ≡ sum (map first xss)
 unfolding sum first flatten
 first-flatten [] = refl
@@ -58,12 +52,12 @@ first-flatten (xs ∷ xss) = first-append xs (flatten xss) ∙ ap (earlier (firs
 
 -- ---- bodies
 
-flat-append : {A B : Type 0} (f : A → List B) (xs ys : List A) → flatMap f (xs ++ ys) ≡ flatMap f xs ++ flatMap f ys
+pub flat-append : {A B : Type 0} (f : A → List B) (xs ys : List A) → flatMap f (xs ++ ys) ≡ flatMap f xs ++ flatMap f ys
 unfolding flatMap
 flat-append f [] ys = refl
 flat-append f (x ∷ xs) ys = ap (λ (l : List _). f x ++ l) (flat-append f xs ys) ∙ sym (append-assoc (f x) (flatMap f xs) (flatMap f ys))
 
-flat-one : {A B : Type 0} (f : A → List B) (x : A) → flatMap f (x ∷ []) ≡ f x
+pub flat-one : {A B : Type 0} (f : A → List B) (x : A) → flatMap f (x ∷ []) ≡ f x
 unfolding flatMap
 flat-one f x = append-nil (f x)
 
@@ -125,7 +119,8 @@ six-sum x y =
     ∙ ap (earlier (earlier (x .calls) (y .calls)))
     (interchange l u l' u'
     ∙ ap₂ earlier
-    (interchange (x .assigns) (earlier (x .repeats) (x .feeds)) (y .assigns) (earlier (y .repeats) (y .feeds)) ∙ ap (earlier (earlier (x .assigns) (y .assigns))) (interchange (x .repeats) (x .feeds) (y .repeats) (y .feeds)))
+    (interchange (x .assigns) (earlier (x .repeats) (x .feeds)) (y .assigns) (earlier (y .repeats) (y .feeds))
+    ∙ ap (earlier (earlier (x .assigns) (y .assigns))) (interchange (x .repeats) (x .feeds) (y .repeats) (y .feeds)))
     (interchange (x .uses) (x .wires) (y .uses) (y .wires)))
 
 module _ (inputs : List Token) where
@@ -137,7 +132,8 @@ module _ (inputs : List Token) where
   unfolding misfedBy
   fed-is c ss = go (isExternal c)
     where
-      go : (x : Bool) → faults 23 (starts (cond x (strangers inputs (assigned c)) (those (isAmong inputs) (assigned c)))) ≡ scan (passing 23 (feed x)) ss (assigned c)
+      go : (x : Bool)
+          → faults 23 (starts (cond x (strangers inputs (assigned c)) (those (isAmong inputs) (assigned c)))) ≡ scan (passing 23 (feed x)) ss (assigned c)
       go true = passing-is 23 (feed true) ss (assigned c)
       go false = passing-is 23 (feed false) ss (assigned c)
 
@@ -195,15 +191,26 @@ module _ (inputs : List Token) where
   next-is ds c cs =
       let e = sym (assigned-last ds c) in
       let u = sym (used-last ds c) in
-      let b : first (scan (beyond maxAssigned) (allAssigned ds) (allAssigned (c ∷ cs))) ≡ earlier (first (scan (beyond maxAssigned) (allAssigned ds) (assigned c))) (first (scan (beyond maxAssigned) (allAssigned (ds ++ (c ∷ []))) (allAssigned cs))) =
-      first-scan (beyond maxAssigned) (allAssigned ds) (assigned c) (allAssigned cs) ∙ ap (λ (l : List Token). earlier (first (scan (beyond maxAssigned) (allAssigned ds) (assigned c))) (first (scan (beyond maxAssigned) l (allAssigned cs)))) e in
-      let r : first (scan (repeating 21) (allAssigned ds) (allAssigned (c ∷ cs))) ≡ earlier (first (scan (repeating 21) (allAssigned ds) (assigned c))) (first (scan (repeating 21) (allAssigned (ds ++ (c ∷ []))) (allAssigned cs))) =
-      first-scan (repeating 21) (allAssigned ds) (assigned c) (allAssigned cs) ∙ ap (λ (l : List Token). earlier (first (scan (repeating 21) (allAssigned ds) (assigned c))) (first (scan (repeating 21) l (allAssigned cs)))) e in
-      let f : first (flatMap (misfedBy inputs) (c ∷ cs)) ≡ earlier (first (misfedBy inputs c)) (first (flatMap (misfedBy inputs) cs)) = first-append (misfedBy inputs c) (flatMap (misfedBy inputs) cs) in
-      let v : first (scan (beyond maxUses) (allUsed ds) (allUsed (c ∷ cs))) ≡ earlier (first (scan (beyond maxUses) (allUsed ds) (used c))) (first (scan (beyond maxUses) (allUsed (ds ++ (c ∷ []))) (allUsed cs))) =
-      first-scan (beyond maxUses) (allUsed ds) (used c) (allUsed cs) ∙ ap (λ (l : List Token). earlier (first (scan (beyond maxUses) (allUsed ds) (used c))) (first (scan (beyond maxUses) l (allUsed cs)))) u in
-      let w : first (unwiredAfter (allAssigned ds) (c ∷ cs)) ≡ earlier (first (faults 22 (starts (strangers (allAssigned ds) (used c))))) (first (unwiredAfter (allAssigned (ds ++ (c ∷ []))) cs)) =
-      first-append (faults 22 (starts (strangers (allAssigned ds) (used c)))) (unwiredAfter (allAssigned ds ++ assigned c) cs) ∙ ap (λ (l : List Token). earlier (first (faults 22 (starts (strangers (allAssigned ds) (used c))))) (first (unwiredAfter l cs))) e in
+      let b : first (scan (beyond maxAssigned) (allAssigned ds) (allAssigned (c ∷ cs))) ≡ earlier
+      (first (scan (beyond maxAssigned) (allAssigned ds) (assigned c))) (first (scan (beyond maxAssigned) (allAssigned (ds ++ (c ∷ []))) (allAssigned cs))) =
+      first-scan (beyond maxAssigned) (allAssigned ds) (assigned c) (allAssigned cs)
+      ∙ ap
+      (λ (l : List Token). earlier (first (scan (beyond maxAssigned) (allAssigned ds) (assigned c))) (first (scan (beyond maxAssigned) l (allAssigned cs))))
+      e in
+      let r : first (scan (repeating 21) (allAssigned ds) (allAssigned (c ∷ cs))) ≡ earlier (first (scan (repeating 21) (allAssigned ds) (assigned c)))
+      (first (scan (repeating 21) (allAssigned (ds ++ (c ∷ []))) (allAssigned cs))) =
+      first-scan (repeating 21) (allAssigned ds) (assigned c) (allAssigned cs)
+      ∙ ap (λ (l : List Token). earlier (first (scan (repeating 21) (allAssigned ds) (assigned c))) (first (scan (repeating 21) l (allAssigned cs)))) e in
+      let f : first (flatMap (misfedBy inputs) (c ∷ cs)) ≡ earlier (first (misfedBy inputs c)) (first (flatMap (misfedBy inputs) cs)) = first-append
+      (misfedBy inputs c) (flatMap (misfedBy inputs) cs) in
+      let v : first (scan (beyond maxUses) (allUsed ds) (allUsed (c ∷ cs))) ≡ earlier (first (scan (beyond maxUses) (allUsed ds) (used c)))
+      (first (scan (beyond maxUses) (allUsed (ds ++ (c ∷ []))) (allUsed cs))) =
+      first-scan (beyond maxUses) (allUsed ds) (used c) (allUsed cs)
+      ∙ ap (λ (l : List Token). earlier (first (scan (beyond maxUses) (allUsed ds) (used c))) (first (scan (beyond maxUses) l (allUsed cs)))) u in
+      let w : first (unwiredAfter (allAssigned ds) (c ∷ cs)) ≡ earlier (first (faults 22 (starts (strangers (allAssigned ds) (used c)))))
+      (first (unwiredAfter (allAssigned (ds ++ (c ∷ []))) cs)) =
+      first-append (faults 22 (starts (strangers (allAssigned ds) (used c)))) (unwiredAfter (allAssigned ds ++ assigned c) cs)
+      ∙ ap (λ (l : List Token). earlier (first (faults 22 (starts (strangers (allAssigned ds) (used c))))) (first (unwiredAfter l cs))) e in
       ap₂ earlier (calls-step ds c cs) (ap₂ earlier (ap₂ earlier b (ap₂ earlier r f)) (ap₂ earlier v w)) ∙ sym (six-sum (one ds c) (all (ds ++ (c ∷ [])) cs))
 
   none-is : (ds : List Call) → six (all ds []) ≡ nothing
@@ -250,7 +257,9 @@ module _ (d : Document) where
   unfolding documentCounts
   counts-is = first-flatten counts
 
-  misfed-is : (x : Option Fault) → earlier (first (misfed d)) x ≡ earlier (first (faults 23 (starts (strangers known (d .inputs))))) (earlier (first (flatMap (misfedBy (d .inputs)) (d .calls))) x)
+  misfed-is : (x : Option Fault)
+      → earlier (first (misfed d)) x ≡ earlier (first (faults 23 (starts (strangers known (d .inputs)))))
+      (earlier (first (flatMap (misfedBy (d .inputs)) (d .calls))) x)
   unfolding misfed
   misfed-is x =
       let a = faults 23 (starts (strangers known (d .inputs))) in
@@ -262,14 +271,10 @@ module _ (d : Document) where
   own-is =
       first-flatten (badVersion d ∷ documentCounts d ∷ graphRepeats d ∷ again d ∷ unwired d ∷ misfed d ∷ unmade d ∷ [])
       ∙ ap (earlier (first (badVersion d)))
-      (ap₂ earlier counts-is (ap (λ (x : Option Fault). earlier (first (graphRepeats d)) (earlier (first (again d)) (earlier (first (unwired d)) x))) (misfed-is (earlier (first (unmade d)) nothing)))
+      (ap₂ earlier counts-is
+      (ap (λ (x : Option Fault). earlier (first (graphRepeats d)) (earlier (first (again d)) (earlier (first (unwired d)) x)))
+      (misfed-is (earlier (first (unmade d)) nothing)))
       ∙ sums (map first counts) others)
-
-  -- inputs or outputs
-  listed : (size code : ℕ) (ts : List Token) → first (scan (listing size code known) [] ts) ≡ earlier (first (over size (starts ts))) (first (faults code (starts (strangers known ts))))
-  listed size code ts =
-      first-both (beyond size) (passing code no-one) [] ts
-      ∙ ap₂ (λ (x y : List Fault). earlier (first x) (first y)) (sym (beyond-is size ts)) (sym (passing-is code no-one [] ts))
 
   map-map : (cs : List Call) → starts (openers cs) ≡ map (λ (c : Call). startOf (c .left)) cs
   unfolding openers
@@ -277,23 +282,35 @@ module _ (d : Document) where
   map-map (c ∷ cs) = ap (λ (l : List ℕ). startOf (c .left) ∷ l) (map-map cs)
 
   body-is : first (bodyFaults (d .inputs) [] (d .calls))
-      ≡ six (record { calls = first (over maxCalls (map (λ (c : Call). startOf (c .left)) (d .calls))); assigns = first (over maxAssigned (starts known)); repeats = first (again d); feeds = first (flatMap (misfedBy (d .inputs)) (d .calls)); uses = first (over maxUses (starts (allUsed (d .calls)))); wires = first (unwired d) })
+      ≡ six
+      (record {
+        calls = first (over maxCalls (map (λ (c : Call). startOf (c .left)) (d .calls)));
+        assigns = first (over maxAssigned (starts known));
+        repeats = first (again d);
+        feeds = first (flatMap (misfedBy (d .inputs)) (d .calls));
+        uses = first (over maxUses (starts (allUsed (d .calls))));
+        wires = first (unwired d);
+      })
   unfolding openers allAssigned allUsed flatMap again
   body-is =
       let c : first (scan (beyond maxCalls) [] (openers (d .calls))) ≡ first (over maxCalls (map (λ (c : Call). startOf (c .left)) (d .calls))) =
       ap first (sym (beyond-is maxCalls (openers (d .calls))) ∙ ap (over maxCalls) (map-map (d .calls))) in
       let a : first (scan (beyond maxAssigned) [] known) ≡ first (over maxAssigned (starts known)) = ap first (sym (beyond-is maxAssigned known)) in
       let g : first (scan (repeating 21) [] known) ≡ first (again d) = ap first (sym (repeating-is 21 [] known)) in
-      let u : first (scan (beyond maxUses) [] (allUsed (d .calls))) ≡ first (over maxUses (starts (allUsed (d .calls)))) = ap first (sym (beyond-is maxUses (allUsed (d .calls)))) in
+      let u : first (scan (beyond maxUses) [] (allUsed (d .calls))) ≡ first (over maxUses (starts (allUsed (d .calls)))) = ap first
+      (sym (beyond-is maxUses (allUsed (d .calls)))) in
       body-from (d .inputs) [] (d .calls)
-      ∙ ap₂ earlier c (ap₂ earlier (ap₂ earlier a (ap (λ (x : Option Fault). earlier x (first (flatMap (misfedBy (d .inputs)) (d .calls)))) g)) (ap (λ (x : Option Fault). earlier x (first (unwired d))) u))
+      ∙ ap₂ earlier c
+      (ap₂ earlier (ap₂ earlier a (ap (λ (x : Option Fault). earlier x (first (flatMap (misfedBy (d .inputs)) (d .calls)))) g))
+      (ap (λ (x : Option Fault). earlier x (first (unwired d))) u))
 
 order : (v i o c a u r g w i' f o' : Option Fault) → sum (v ∷ i ∷ o ∷ c ∷ a ∷ u ∷ r ∷ g ∷ w ∷ i' ∷ f ∷ o' ∷ [])
     ≡ earlier v (earlier (earlier i i') (earlier (earlier o o') (earlier r (earlier c (earlier (earlier a (earlier g f)) (earlier u w))))))
 unfolding sum
 order v i o c a u r g w i' f o' =
     let uw = earlier u w in
-    let left : earlier a (earlier g (earlier f uw)) ≡ earlier (earlier a (earlier g f)) uw = ap (earlier a) (sym (earlier-assoc g f uw)) ∙ sym (earlier-assoc a (earlier g f) uw) in
+    let left : earlier a (earlier g (earlier f uw)) ≡ earlier (earlier a (earlier g f)) uw = ap (earlier a) (sym (earlier-assoc g f uw))
+    ∙ sym (earlier-assoc a (earlier g f) uw) in
     let body = earlier (earlier a (earlier g f)) uw in
     let end : sum (u ∷ w ∷ []) ≡ uw = ap (earlier u) (earlier-none w) in
     ap (earlier v)
@@ -305,28 +322,84 @@ order v i o c a u r g w i' f o' =
     ∙ sym (earlier-assoc o o' (earlier r (earlier c body)))))
     ∙ sym (earlier-assoc i i' (earlier (earlier o o') (earlier r (earlier c body)))))
 
--- The faults of a document that need no operation list, as the code meets them.
-pub own-sum : (d : Document) → first (ownFaults d)
+own-sum : (d : Document) → let known = allAssigned (d .calls) in first (ownFaults d)
     ≡ earlier (first (badVersion d))
-    (earlier (first (scan (listing maxInputs 23 (allAssigned (d .calls))) [] (d .inputs)))
-    (earlier (first (scan (listing maxOutputs 24 (allAssigned (d .calls))) [] (d .outputs)))
+    (earlier (earlier (first (over maxInputs (starts (d .inputs)))) (first (faults 23 (starts (strangers known (d .inputs))))))
+    (earlier (earlier (first (over maxOutputs (starts (d .outputs)))) (first (faults 24 (starts (strangers known (d .outputs))))))
     (earlier (first (graphRepeats d)) (first (bodyFaults (d .inputs) [] (d .calls))))))
 unfolding unmade
 own-sum d =
-    let R = first (graphRepeats d) in
+    let missing : ℕ → List Token → Option Fault = λ code ts. first (faults code (starts (strangers (allAssigned (d .calls)) ts))) in
     own-is d
     ∙ order _ _ _ _ _ _ _ _ _ _ _ _
-    ∙ ap (earlier (first (badVersion d)))
-    (ap₂ earlier (sym (listed d maxInputs 23 (d .inputs))) (ap₂ earlier (sym (listed d maxOutputs 24 (d .outputs))) (ap (earlier R) (sym (body-is d)))))
+    ∙ ap (λ (x : Option Fault).
+    earlier (first (badVersion d))
+    (earlier (earlier (first (over maxInputs (starts (d .inputs)))) (missing 23 (d .inputs)))
+    (earlier (earlier (first (over maxOutputs (starts (d .outputs)))) (missing 24 (d .outputs))) (earlier (first (graphRepeats d)) x)))) (sym (body-is d))
 
--- The faults of a document are those that need no operation list and those that do.
-pub document-sum : (hs : List Header) (d : Document) → first (documentFaults hs d)
-    ≡ earlier (first (ownFaults d)) (first (flatten (flatMap (undeclared hs) (d .calls) ∷ flatMap (argumentFaults hs) (d .calls) ∷ flatMap (unmatched hs) (d .calls) ∷ [])))
-unfolding documentFaults ownFaults
+-- ---- as the code meets them
+
+-- the names of a header: beyond a size, or listed already
+shifted : (known ss ts : List Token) → scan (λ ps t. when (isAmong (known ++ ps) t) (fault 13 (t .start))) ss ts ≡ scan (repeating 13) (known ++ ss) ts
+unfolding scan
+shifted known ss [] = refl
+shifted known ss (t ∷ ts) =
+    ap (λ (l : List Fault). when (isAmong (known ++ ss) t) (fault 13 (t .start)) ++ l)
+    (shifted known (ss ++ (t ∷ [])) ts ∙ ap (λ (l : List Token). scan (repeating 13) l ts) (sym (append-assoc known ss (t ∷ []))))
+
+listed-is : (size : ℕ) (known ts : List Token)
+    → first (scan (listing size known) [] ts) ≡ earlier (first (over size (starts ts))) (first (scan (repeating 13) known ts))
+listed-is size known ts =
+    first-both (beyond size) (λ ps t. when (isAmong (known ++ ps) t) (fault 13 (t .start))) [] ts
+    ∙ ap₂ (λ (x y : List Fault). earlier (first x) (first y)) (sym (beyond-is size ts))
+    (shifted known [] ts ∙ ap (λ (l : List Token). scan (repeating 13) l ts) (append-nil known))
+
+repeats-are : (d : Document)
+    → first (graphRepeats d) ≡ earlier (first (scan (repeating 13) [] (d .inputs))) (first (scan (repeating 13) (d .inputs) (d .outputs)))
+unfolding graphRepeats
+repeats-are d = ap first (repeating-is 13 [] (d .inputs ++ d .outputs)) ∙ first-scan (repeating 13) [] (d .inputs) (d .outputs)
+
+-- the same sums in the order of the code
+reorder : (v i i' o o' r s b p : Option Fault)
+    → earlier (earlier v (earlier (earlier i i') (earlier (earlier o o') (earlier (earlier r s) b)))) p
+    ≡ earlier (earlier (earlier (earlier (earlier v (earlier i r)) (earlier o s)) (earlier b p)) i') o'
+unfolding sum
+reorder v i i' o o' r s b p =
+    let tail : earlier i' o' ≡ sum (i' ∷ o' ∷ []) = ap (earlier i') (sym (earlier-none o')) in
+    let end : sum (r ∷ s ∷ b ∷ p ∷ []) ≡ earlier r (earlier s (earlier b p)) = ap (λ (x : Option Fault). earlier r (earlier s (earlier b x))) (earlier-none p)
+    in
+    let inner : earlier r (earlier o (earlier s (earlier b (earlier p (earlier i' o'))))) ≡ earlier i'
+    (earlier o (earlier o' (earlier r (earlier s (earlier b p))))) =
+    ap (λ (x : Option Fault). earlier r (earlier o (earlier s (earlier b (earlier p x))))) tail
+    ∙ pick (r ∷ o ∷ s ∷ b ∷ p ∷ []) i' (o' ∷ [])
+    ∙ ap (earlier i') (pick (r ∷ []) o (s ∷ b ∷ p ∷ o' ∷ []) ∙ ap (earlier o) (pick (r ∷ s ∷ b ∷ p ∷ []) o' [] ∙ ap (earlier o') end)) in
+    simp earlier-assoc (ap (λ (x : Option Fault). earlier v (earlier i x)) (sym inner))
+
+-- The faults of a document under its headers, as the walk over its names and calls meets them.
+pub document-sum : (hs : List Header) (d : Document) → let known = allAssigned (d .calls) in first (documentFaults hs d)
+    ≡ earlier
+    (earlier
+    (earlier
+    (earlier (earlier (first (badVersion d)) (first (scan (listing maxInputs []) [] (d .inputs))))
+    (first (scan (listing maxOutputs (d .inputs)) [] (d .outputs))))
+    (earlier (first (bodyFaults (d .inputs) [] (d .calls))) (first (flatMap (operationFaults hs) (d .calls)))))
+    (first (faults 23 (starts (strangers known (d .inputs))))))
+    (first (faults 24 (starts (strangers known (d .outputs)))))
 document-sum hs d =
-    let own = badVersion d ∷ documentCounts d ∷ graphRepeats d ∷ [] in
-    let by = flatMap (undeclared hs) (d .calls) ∷ flatMap (argumentFaults hs) (d .calls) ∷ flatMap (unmatched hs) (d .calls) ∷ [] in
-    let wiring = again d ∷ unwired d ∷ misfed d ∷ unmade d ∷ [] in
-    first-flatten (own ++ (by ++ wiring))
-    ∙ middle (map first own) (map first by) (map first wiring)
-    ∙ ap₂ earlier (sym (first-flatten (own ++ wiring))) (sym (first-flatten by))
+    document-parts hs d
+    ∙ ap (λ (x : Option Fault). earlier x (first (flatMap (operationFaults hs) (d .calls))))
+    (own-sum d ∙ ap (λ (x : Option Fault).
+    earlier (first (badVersion d))
+    (earlier (earlier (first (over maxInputs (starts (d .inputs)))) (first (faults 23 (starts (strangers (allAssigned (d .calls)) (d .inputs))))))
+    (earlier (earlier (first (over maxOutputs (starts (d .outputs)))) (first (faults 24 (starts (strangers (allAssigned (d .calls)) (d .outputs))))))
+    (earlier x (first (bodyFaults (d .inputs) [] (d .calls))))))) (repeats-are d))
+    ∙ reorder (first (badVersion d)) (first (over maxInputs (starts (d .inputs)))) (first (faults 23 (starts (strangers (allAssigned (d .calls)) (d .inputs)))))
+    (first (over maxOutputs (starts (d .outputs)))) (first (faults 24 (starts (strangers (allAssigned (d .calls)) (d .outputs)))))
+    (first (scan (repeating 13) [] (d .inputs))) (first (scan (repeating 13) (d .inputs) (d .outputs))) (first (bodyFaults (d .inputs) [] (d .calls)))
+    (first (flatMap (operationFaults hs) (d .calls)))
+    ∙ ap₂ (λ (x y : Option Fault).
+    earlier (earlier (earlier (earlier (earlier (first (badVersion d)) x) y)
+    (earlier (first (bodyFaults (d .inputs) [] (d .calls))) (first (flatMap (operationFaults hs) (d .calls)))))
+    (first (faults 23 (starts (strangers (allAssigned (d .calls)) (d .inputs)))))) (first
+    (faults 24 (starts (strangers (allAssigned (d .calls)) (d .outputs))))))
+    (sym (listed-is maxInputs [] (d .inputs))) (sym (listed-is maxOutputs (d .inputs) (d .outputs)))

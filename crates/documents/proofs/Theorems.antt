@@ -44,9 +44,11 @@ unfolding first
 no-first xs e = rw e
 
 -- In an accepted document the call that a wire names comes before the call that uses the identifier, and assigns it.
-pub wire-below : (hs : List Header) (doc : List ℕ) (d : Document) → AcceptedDocument hs doc d → (before : List Call) (c : Call) (after : List Call) (xs : List Token) (t : Token) (ys : List Token)
+pub wire-below : (hs : List Header) (doc : List ℕ) (d : Document) → AcceptedDocument hs doc d
+    → (before : List Call) (c : Call) (after : List Call) (xs : List Token) (t : Token) (ys : List Token)
     → d .calls ≡ before ++ (c ∷ after) → used c ≡ xs ++ (t ∷ ys) → AssignedBy (d .calls) (assigner (d .calls) t) (length before) t
-wire-below hs doc d a before c after xs t ys e u = rw e (wired before c after xs t ys (rw e at (unwired-none hs d (no-first (documentFaults hs d) (a .lawful)))) u)
+wire-below hs doc d a before c after xs t ys e u =
+    rw e (wired before c after xs t ys (rw e at (unwired-none hs d (no-first (documentFaults hs d) (a .lawful)))) u)
 
 -- ---- the first fault of a document under an accepted list: of the bytes; of the syntax, whose place the grammar gives; of the rules
 
@@ -71,16 +73,19 @@ module _ (list doc : List ℕ) (hs : List Header) (a : AcceptedList list hs) whe
   both-pass d b = rw (list-passes list hs a, document-passes hs doc d b)
 
 -- what passes is accepted
-pub both-passed : (list doc : List ℕ) (k : Checked) → length list ≤ maxText → length doc ≤ maxText → bothStages list doc ≡ pass k → AcceptedList list (k .headers) × AcceptedDocument (k .headers) doc (k .document)
+pub both-passed : (list doc : List ℕ) (k : Checked) → length list ≤ maxText → length doc ≤ maxText → bothStages list doc ≡ pass k
+    → AcceptedList list (k .headers) × AcceptedDocument (k .headers) doc (k .document)
 unfolding bothStages
 both-passed list doc k l m h = outer (listStages list) refl h
   where
-    inner : (hs : List Header) → AcceptedList list hs → (s : Stage Document) → documentStages hs doc ≡ s → andThen {B = Checked} s (λ d. pass (record { headers = hs; document = d })) ≡ pass k
+    inner : (hs : List Header) → AcceptedList list hs → (s : Stage Document) → documentStages hs doc ≡ s
+        → andThen {B = Checked} s (λ d. pass (record { headers = hs; document = d })) ≡ pass k
         → AcceptedList list (k .headers) × AcceptedDocument (k .headers) doc (k .document)
     inner hs a (pass d) q e = let z : record { headers = hs; document = d } ≡ k = cc in rw (← z) (a, document-passed hs doc d m q)
     inner hs a (stop r) q e = let z : _≡_ {A = ℕ} 0 1 = cc in absurd (omega arith)
 
-    outer : (s : Stage (List Header)) → listStages list ≡ s → andThen s (λ hs. andThen {B = Checked} (documentStages hs doc) (λ d. pass (record { headers = hs; document = d }))) ≡ pass k
+    outer : (s : Stage (List Header)) → listStages list ≡ s
+        → andThen s (λ hs. andThen {B = Checked} (documentStages hs doc) (λ d. pass (record { headers = hs; document = d }))) ≡ pass k
         → AcceptedList list (k .headers) × AcceptedDocument (k .headers) doc (k .document)
     outer (pass hs) q e = inner hs (list-passed list hs l q) (documentStages hs doc) refl e
     outer (stop r) q e = let z : _≡_ {A = ℕ} 0 1 = cc in absurd (omega arith)
@@ -106,7 +111,8 @@ module _ {A : Type 0} (serves : Bool) (list doc : List ℕ) (s : Stage A) where
   pub guarded-passed : (a : A) → guarded serves list doc s ≡ pass a → (serves ≡ true) × ((length list ≤ maxText) × ((length doc ≤ maxText) × (s ≡ pass a)))
   guarded-passed a h = go serves (leb (length list) maxText) (leb (length doc) maxText) refl refl refl h
     where
-      go : (x y z : Bool) → serves ≡ x → leb (length list) maxText ≡ y → leb (length doc) maxText ≡ z → guard x (answer 1 0 0 0) (guard y (answer 2 1 maxText 0) (guard z (answer 2 2 maxText 0) s)) ≡ pass a
+      go : (x y z : Bool) → serves ≡ x → leb (length list) maxText ≡ y → leb (length doc) maxText ≡ z
+          → guard x (answer 1 0 0 0) (guard y (answer 2 1 maxText 0) (guard z (answer 2 2 maxText 0) s)) ≡ pass a
           → (serves ≡ true) × ((length list ≤ maxText) × ((length doc ≤ maxText) × (s ≡ pass a)))
       go false y z e f g h = let c : _≡_ {A = ℕ} 0 1 = cc in absurd (omega arith)
       go true false z e f g h = let c : _≡_ {A = ℕ} 0 1 = cc in absurd (omega arith)
@@ -114,12 +120,14 @@ module _ {A : Type 0} (serves : Bool) (list doc : List ℕ) (s : Stage A) where
       go true true true e f g h = (e, (leb-true (length list) maxText f, (leb-true (length doc) maxText g, h)))
 
 -- an answer of code 0 is one of stages that pass, if their refusals have another code
-pub answer-passed : {A : Type 0} (s : Stage A) (n : A → ℕ) → ((r : Answer) → s ≡ stop r → 1 ≤ r .code) → stageAnswer s n .code ≡ Code.accepted → (a : A) × (s ≡ pass a)
+pub answer-passed : {A : Type 0} (s : Stage A) (n : A → ℕ) → ((r : Answer) → s ≡ stop r → 1 ≤ r .code) → stageAnswer s n .code ≡ Code.accepted
+    → (a : A) × (s ≡ pass a)
 answer-passed (pass a) n h e = (a, refl)
 answer-passed (stop r) n h e = let c = h r refl in absurd (omega (arith, c, e))
 
 -- a refusal by guards or by stages whose codes are not 0
-pub guarded-codes : {A : Type 0} (serves : Bool) (list doc : List ℕ) (s : Stage A) → ((r : Answer) → s ≡ stop r → 3 ≤ r .code) → (r : Answer) → guarded serves list doc s ≡ stop r → 1 ≤ r .code
+pub guarded-codes : {A : Type 0} (serves : Bool) (list doc : List ℕ) (s : Stage A) → ((r : Answer) → s ≡ stop r → 3 ≤ r .code) → (r : Answer)
+    → guarded serves list doc s ≡ stop r → 1 ≤ r .code
 guarded-codes {A} serves list doc s h r = go serves (leb (length list) maxText) (leb (length doc) maxText)
   where
     code : {q : Answer} → _≡_ {A = Stage A} (stop q) (stop r) → 1 ≤ q .code → 1 ≤ r .code
@@ -151,7 +159,8 @@ module _ (list doc : List ℕ) (l : CheckRoom) where
   unfolding checked
   check-stages r k m = guarded-good (checkServes l) list doc (bothStages list doc) r k m
 
-  pub check-refuses : (r : Answer) → checkServes l ≡ true → length list ≤ maxText → length doc ≤ maxText → bothStages list doc ≡ stop r → checkAnswer list doc l ≡ r
+  pub check-refuses : (r : Answer) → checkServes l ≡ true → length list ≤ maxText → length doc ≤ maxText → bothStages list doc ≡ stop r
+      → checkAnswer list doc l ≡ r
   unfolding checkAnswer
   check-refuses r s k m e = rw (check-stages s k m, e)
 
@@ -164,7 +173,8 @@ module _ (list doc : List ℕ) (l : CheckRoom) where
     unfolding checkAnswer
     check-accepts = rw checked-is
 
-    pub check-writes : (calls wires : List ℕ) → (callsAfter (checked list doc l) calls ≡ sets calls 0 (callTable hs d)) × (wiresAfter (checked list doc l) wires ≡ sets wires 0 (wireTable d))
+    pub check-writes : (calls wires : List ℕ)
+        → (callsAfter (checked list doc l) calls ≡ sets calls 0 (callTable hs d)) × (wiresAfter (checked list doc l) wires ≡ sets wires 0 (wireTable d))
     unfolding callsAfter wiresAfter
     check-writes calls wires = (rw checked-is, rw checked-is)
 
@@ -180,7 +190,8 @@ module _ (list doc : List ℕ) (l : CheckRoom) where
   -- ---- lent words
 
   -- a refusal leaves both tables as they were
-  pub check-keeps : (calls wires : List ℕ) → (checkAnswer list doc l .code ≡ Code.accepted → ⊥) → (callsAfter (checked list doc l) calls ≡ calls) × (wiresAfter (checked list doc l) wires ≡ wires)
+  pub check-keeps : (calls wires : List ℕ) → (checkAnswer list doc l .code ≡ Code.accepted → ⊥)
+      → (callsAfter (checked list doc l) calls ≡ calls) × (wiresAfter (checked list doc l) wires ≡ wires)
   unfolding checkAnswer callsAfter wiresAfter
   check-keeps calls wires n = go (checked list doc l) n
     where

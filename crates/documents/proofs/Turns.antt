@@ -15,11 +15,14 @@ use Rattle.lists.specs.Names.{those, isAmong, repeatsAfter, repeats, startOf}
 use Rattle.lists.specs.Reading.{allTensor}
 use Rattle.lists.specs.ListRules.{paramNames}
 use Rattle.lists.proofs.First.{earlier-assoc, earlier-comm, earlier-self, earlier-none, first-append}
-use Rattle.documents.specs.Binding.{leading, labels, later, Slot, slotsFrom, slots, byName, taken, takesPlace, misplacedFrom, misplaced, misnamed, misfit, misfits, missing}
+use Rattle.documents.specs.Binding.{leading, labels, later, Slot, slotsFrom, slots, byName, taken, takesPlace, misplacedFrom, misplaced, misnamed}
+use Rattle.documents.specs.Binding.{misfit, misfits, missing}
 use Rattle.documents.specs.Arguments.{isBound, bound, leads, tallyFaults}
 use Rattle.documents.proofs.Labels.{leading-named, leading-same, labels-named, labels-same, labels-none}
-use Rattle.documents.proofs.Sought.{None, Only, Nth, nth-takes}
-use Rattle.documents.proofs.Slots.{given-flags, given-misfits, unknown-slots, again-slots, named-slots, trailing-slots, refused-slots, placed-slots, known-none, known-only, bound-is, drop-later}
+use Rattle.documents.proofs.Sought.{None, Only, nth-takes}
+use Rattle.documents.specs.Tallies.{Nth, Turned}
+use Rattle.documents.proofs.Slots.{given-flags, given-misfits, unknown-slots, again-slots, named-slots, trailing-slots, refused-slots, placed-slots}
+use Rattle.documents.proofs.Slots.{known-none, known-only, bound-is, drop-later}
 
 -- ---- the earlier of several
 
@@ -44,11 +47,13 @@ three ks bs cs =
 misplaced-named : (b : Bool) (ps : List Param) (xs : List Arg) (t : Token) (v : Value) → misplacedFrom b ps (xs ++ (named t v ∷ [])) ≡ misplacedFrom b ps xs
 unfolding misplacedFrom
 misplaced-named b ps [] t v = refl
-misplaced-named b ps (positional w ∷ xs) t v = ap (λ (r : List Fault). unless (b && takesPlace ps) (fault 16 (startOf w)) ++ r) (misplaced-named b (later ps) xs t v)
+misplaced-named b ps (positional w ∷ xs) t v =
+    ap (λ (r : List Fault). unless (b && takesPlace ps) (fault 16 (startOf w)) ++ r) (misplaced-named b (later ps) xs t v)
 misplaced-named b ps (named s w ∷ xs) t v = misplaced-named false (later ps) xs t v
 
 misplaced-more : (b : Bool) (ps : List Param) (xs : List Arg) (v : Value)
-    → misplacedFrom b ps (xs ++ (positional v ∷ [])) ≡ misplacedFrom b ps xs ++ unless ((b && leads xs) && takesPlace (drop (length xs) ps)) (fault 16 (startOf v))
+    → misplacedFrom b ps (xs ++ (positional v ∷ [])) ≡ misplacedFrom b ps xs
+    ++ unless ((b && leads xs) && takesPlace (drop (length xs) ps)) (fault 16 (startOf v))
 unfolding misplacedFrom leads
 misplaced-more true ps [] v = append-nil (unless (takesPlace ps) (fault 16 (startOf v)))
 misplaced-more false ps [] v = refl
@@ -56,10 +61,12 @@ misplaced-more b ps (positional w ∷ xs) v =
     let u = unless (b && takesPlace ps) (fault 16 (startOf w)) in
     ap (λ (r : List Fault). u ++ r) (misplaced-more b (later ps) xs v)
     ∙ sym (append-assoc u (misplacedFrom b (later ps) xs) (unless ((b && leads xs) && takesPlace (drop (length xs) (later ps))) (fault 16 (startOf v))))
-    ∙ ap (λ (qs : List Param). (u ++ misplacedFrom b (later ps) xs) ++ unless ((b && leads xs) && takesPlace qs) (fault 16 (startOf v))) (drop-later (length xs) ps)
+    ∙ ap (λ (qs : List Param). (u ++ misplacedFrom b (later ps) xs) ++ unless ((b && leads xs) && takesPlace qs) (fault 16 (startOf v)))
+    (drop-later (length xs) ps)
 misplaced-more b ps (named s w ∷ xs) v =
     misplaced-more false (later ps) xs v
-    ∙ ap (λ (c : Bool). misplacedFrom false (later ps) xs ++ unless (c && takesPlace (drop (length (named s w ∷ xs)) ps)) (fault 16 (startOf v))) (sym (and-false b))
+    ∙ ap (λ (c : Bool). misplacedFrom false (later ps) xs ++ unless (c && takesPlace (drop (length (named s w ∷ xs)) ps)) (fault 16 (startOf v)))
+    (sym (and-false b))
 
 -- ---- 17
 
@@ -87,7 +94,8 @@ unfolding those
 those-more f [] t = refl
 those-more f (s ∷ ss) t = go (f s) (those-more f ss t)
   where
-    go : (b : Bool) → those f (ss ++ (t ∷ [])) ≡ those f ss ++ when (f t) t → cond b (s ∷ those f (ss ++ (t ∷ []))) (those f (ss ++ (t ∷ []))) ≡ cond b (s ∷ those f ss) (those f ss) ++ when (f t) t
+    go : (b : Bool) → those f (ss ++ (t ∷ [])) ≡ those f ss ++ when (f t) t
+        → cond b (s ∷ those f (ss ++ (t ∷ []))) (those f (ss ++ (t ∷ []))) ≡ cond b (s ∷ those f ss) (those f ss) ++ when (f t) t
     go true ih = ap (λ (r : List Token). s ∷ r) ih
     go false ih = ih
 
@@ -95,7 +103,9 @@ repeats-more : (seen ss : List Token) (t : Token) → repeatsAfter seen (ss ++ (
 unfolding repeatsAfter
 repeats-more seen [] t = ap (λ (rs : List Token). when (isAmong rs t) t) (sym (append-nil seen))
 repeats-more seen (s ∷ ss) t =
-    go (isAmong seen s) (repeats-more (seen ++ (s ∷ [])) ss t ∙ ap (λ (rs : List Token). repeatsAfter (seen ++ (s ∷ [])) ss ++ when (isAmong rs t) t) (append-assoc seen (s ∷ []) ss))
+    go (isAmong seen s)
+    (repeats-more (seen ++ (s ∷ [])) ss t
+    ∙ ap (λ (rs : List Token). repeatsAfter (seen ++ (s ∷ [])) ss ++ when (isAmong rs t) t) (append-assoc seen (s ∷ []) ss))
   where
     go : (b : Bool) → repeatsAfter (seen ++ (s ∷ [])) (ss ++ (t ∷ [])) ≡ repeatsAfter (seen ++ (s ∷ [])) ss ++ when (isAmong (seen ++ (s ∷ ss)) t) t
         → cond b (s ∷ repeatsAfter (seen ++ (s ∷ [])) (ss ++ (t ∷ []))) (repeatsAfter (seen ++ (s ∷ [])) (ss ++ (t ∷ [])))
@@ -125,17 +135,23 @@ misnamed-named ps xs t v =
     let known : Token → Bool = λ u. not (isAmong (paramNames ps) u) in
     let had : Token → Bool = isAmong (taken ps (leading xs)) in
     let ls = labels xs in
-    ap₂ (λ (vs : List Value) (us : List Token). at17 (flatten (those known us ∷ those (isAmong (taken ps vs)) us ∷ repeats us ∷ []))) (leading-named xs t v) (labels-named xs t v)
+    ap₂ (λ (vs : List Value) (us : List Token). at17 (flatten (those known us ∷ those (isAmong (taken ps vs)) us ∷ repeats us ∷ []))) (leading-named xs t v)
+    (labels-named xs t v)
     ∙ at17-three (those known (ls ++ (t ∷ []))) (those had (ls ++ (t ∷ []))) (repeats (ls ++ (t ∷ [])))
     ∙ ap₂ earlier (ap at17 (those-more known ls t) ∙ at17-append (those known ls) (when (known t) t))
-    (ap₂ earlier (ap at17 (those-more had ls t) ∙ at17-append (those had ls) (when (had t) t)) (ap at17 (repeats-more [] ls t) ∙ at17-append (repeats ls) (when (isAmong ls t) t)))
+    (ap₂ earlier (ap at17 (those-more had ls t) ∙ at17-append (those had ls) (when (had t) t))
+    (ap at17 (repeats-more [] ls t) ∙ at17-append (repeats ls) (when (isAmong ls t) t)))
     ∙ swaps (at17 (those known ls)) (at17 (when (known t) t)) (at17 (those had ls)) (at17 (when (had t) t)) (at17 (repeats ls)) (at17 (when (isAmong ls t) t))
     ∙ ap₂ earlier (sym (at17-three (those known ls) (those had ls) (repeats ls))) (any t (known t) (had t) (isAmong ls t))
 
 -- no label, no fault
 misnamed-none : (ps : List Param) (xs : List Arg) → labels xs ≡ [] → misnamed ps xs ≡ []
 unfolding misnamed those repeatsAfter flatten
-misnamed-none ps xs h = ap (λ (us : List Token). faults 17 (starts (flatten (those (λ t. not (isAmong (paramNames ps) t)) us ∷ those (isAmong (taken ps (leading xs))) us ∷ repeats us ∷ [])))) h
+misnamed-none ps xs h =
+    ap
+    (λ (us : List Token). faults 17
+    (starts (flatten (those (λ t. not (isAmong (paramNames ps) t)) us ∷ those (isAmong (taken ps (leading xs))) us ∷ repeats us ∷ []))))
+    h
 
 misnamed-same : (ps : List Param) (xs : List Arg) (v : Value) → misnamed ps (xs ++ (positional v ∷ [])) ≡ misnamed ps xs
 unfolding misnamed
@@ -144,17 +160,15 @@ misnamed-same ps xs v = go (leads xs) refl
     go : (b : Bool) → leads xs ≡ b → misnamed ps (xs ++ (positional v ∷ [])) ≡ misnamed ps xs
     go true h = misnamed-none ps (xs ++ (positional v ∷ [])) (labels-same xs v ∙ labels-none xs h) ∙ sym (misnamed-none ps xs (labels-none xs h))
     go false h =
-        ap₂ (λ (vs : List Value) (us : List Token). faults 17 (starts (flatten (those (λ t. not (isAmong (paramNames ps) t)) us ∷ those (isAmong (taken ps vs)) us ∷ repeats us ∷ []))))
+        ap₂
+        (λ (vs : List Value) (us : List Token). faults 17
+        (starts (flatten (those (λ t. not (isAmong (paramNames ps) t)) us ∷ those (isAmong (taken ps vs)) us ∷ repeats us ∷ []))))
         (leading-same xs v h) (labels-same xs v)
 
 -- ---- together
 
--- an argument x after xs adds the fault o, where there is one, and leaves the flags bs
-pub record Turned (ps : List Param) (xs : List Arg) (x : Arg) (o : Option Fault) (bs : List Bool) : Type 0 where
-  pub faulted : first (tallyFaults ps (xs ++ (x ∷ []))) ≡ earlier (first (tallyFaults ps xs)) o
-  pub flags : bound ps (xs ++ (x ∷ [])) ≡ bs
-
-passed-is : (ps : List Param) (xs : List Arg) → first (tallyFaults ps xs) ≡ earlier (first (misplaced ps xs)) (earlier (first (misnamed ps xs)) (first (misfits (slots ps xs))))
+passed-is : (ps : List Param) (xs : List Arg)
+    → first (tallyFaults ps xs) ≡ earlier (first (misplaced ps xs)) (earlier (first (misnamed ps xs)) (first (misfits (slots ps xs))))
 unfolding tallyFaults
 passed-is ps xs = three (misplaced ps xs) (misnamed ps xs) (misfits (slots ps xs))
 
@@ -170,11 +184,13 @@ add-second a b c n = ap (earlier a) (earlier-assoc b n c ∙ ap (earlier b) (ear
 
 module _ (ps : List Param) (xs : List Arg) (t : Token) (v : Value) where
   named-passed : {b : Bool} {ss : List Slot} → wrong ps xs t ≡ b → slots ps (xs ++ (named t v ∷ [])) ≡ ss
-      → first (tallyFaults ps (xs ++ (named t v ∷ []))) ≡ earlier (first (misplaced ps xs)) (earlier (earlier (first (misnamed ps xs)) (at17 (when b t))) (first (misfits ss)))
+      → first (tallyFaults ps (xs ++ (named t v ∷ []))) ≡ earlier (first (misplaced ps xs))
+      (earlier (earlier (first (misnamed ps xs)) (at17 (when b t))) (first (misfits ss)))
   named-passed h e =
       passed-is ps (xs ++ (named t v ∷ []))
       ∙ ap₂ earlier (ap first (misplaced-named true ps xs t v))
-      (ap₂ earlier (misnamed-named ps xs t v ∙ ap (λ (c : Bool). earlier (first (misnamed ps xs)) (at17 (when c t))) h) (ap (λ (ss : List Slot). first (misfits ss)) e))
+      (ap₂ earlier (misnamed-named ps xs t v ∙ ap (λ (c : Bool). earlier (first (misnamed ps xs)) (at17 (when c t))) h)
+      (ap (λ (ss : List Slot). first (misfits ss)) e))
 
   -- 17
   named-refused : wrong ps xs t ≡ true → slots ps (xs ++ (named t v ∷ [])) ≡ slots ps xs → Turned ps xs (named t v) (some (fault 17 (t .start))) (bound ps xs)
@@ -187,7 +203,8 @@ module _ (ps : List Param) (xs : List Arg) (t : Token) (v : Value) where
       }
 
   pub turn-unknown : None t ps → Turned ps xs (named t v) (some (fault 17 (t .start))) (bound ps xs)
-  turn-unknown n = named-refused (ap (λ (b : Bool). not b || (isAmong (taken ps (leading xs)) t || isAmong (labels xs) t)) (known-none n)) (unknown-slots t v ps xs n)
+  turn-unknown n =
+      named-refused (ap (λ (b : Bool). not b || (isAmong (taken ps (leading xs)) t || isAmong (labels xs) t)) (known-none n)) (unknown-slots t v ps xs n)
 
   module _ {j : ℕ} {p : Param} (o : Only t j p ps) where
     wrong-is : {b : Bool} → getD (bound ps xs) j false ≡ b → wrong ps xs t ≡ b
@@ -211,11 +228,13 @@ module _ (ps : List Param) (xs : List Arg) (t : Token) (v : Value) where
 module _ (ps : List Param) (xs : List Arg) (v : Value) where
   placed-passed : {b : Bool} → (leads xs && takesPlace (drop (length xs) ps)) ≡ b
       → first (tallyFaults ps (xs ++ (positional v ∷ [])))
-      ≡ earlier (earlier (first (misplaced ps xs)) (first (unless b (fault 16 (startOf v))))) (earlier (first (misnamed ps xs)) (first (misfits (slots ps (xs ++ (positional v ∷ []))))))
+      ≡ earlier (earlier (first (misplaced ps xs)) (first (unless b (fault 16 (startOf v)))))
+      (earlier (first (misnamed ps xs)) (first (misfits (slots ps (xs ++ (positional v ∷ []))))))
   placed-passed {b} h =
       passed-is ps (xs ++ (positional v ∷ []))
       ∙ ap₂ earlier
-      (ap first (misplaced-more true ps xs v ∙ ap (λ (c : Bool). misplaced ps xs ++ unless c (fault 16 (startOf v))) h) ∙ first-append (misplaced ps xs) (unless b (fault 16 (startOf v))))
+      (ap first (misplaced-more true ps xs v ∙ ap (λ (c : Bool). misplaced ps xs ++ unless c (fault 16 (startOf v))) h)
+      ∙ first-append (misplaced ps xs) (unless b (fault 16 (startOf v))))
       (ap (λ (m : List Fault). earlier (first m) (first (misfits (slots ps (xs ++ (positional v ∷ [])))))) (misnamed-same ps xs v))
 
   -- 16
@@ -225,7 +244,10 @@ module _ (ps : List Param) (xs : List Arg) (v : Value) where
   place-refused h e =
       record {
         faulted = placed-passed h
-            ∙ ap (λ (ss : List Slot). earlier (earlier (first (misplaced ps xs)) (some (fault 16 (startOf v)))) (earlier (first (misnamed ps xs)) (first (misfits ss)))) e
+            ∙ ap
+            (λ (ss : List Slot). earlier (earlier (first (misplaced ps xs)) (some (fault 16 (startOf v))))
+            (earlier (first (misnamed ps xs)) (first (misfits ss))))
+            e
             ∙ add-first (first (misplaced ps xs)) (first (misnamed ps xs)) (first (misfits (slots ps xs))) (some (fault 16 (startOf v)))
             ∙ ap (λ (o : Option Fault). earlier o (some (fault 16 (startOf v)))) (sym (passed-is ps xs));
         flags = ap (map isBound) e;
@@ -262,7 +284,8 @@ unfolding misplacedFrom labels leading first
 passed-none ps = passed-is ps [] ∙ ap₂ (λ (m r : List Fault). earlier (first m) (first r)) (misnamed-none ps [] refl) (misfits-none ps)
 
 pub whole : (place : ℕ) (ps : List Param) (xs : List Arg)
-    → first (flatten (misplaced ps xs ∷ misnamed ps xs ∷ misfits (slots ps xs) ∷ missing place (slots ps xs) ∷ [])) ≡ earlier (first (tallyFaults ps xs)) (first (missing place (slots ps xs)))
+    → first (flatten (misplaced ps xs ∷ misnamed ps xs ∷ misfits (slots ps xs) ∷ missing place (slots ps xs) ∷ [])) ≡ earlier (first (tallyFaults ps xs))
+    (first (missing place (slots ps xs)))
 unfolding flatten
 whole place ps xs =
     let a = misplaced ps xs in
@@ -270,6 +293,8 @@ whole place ps xs =
     let c = misfits (slots ps xs) in
     let d = missing place (slots ps xs) in
     first-append a (b ++ (c ++ (d ++ [])))
-    ∙ ap (earlier (first a)) (first-append b (c ++ (d ++ [])) ∙ ap (earlier (first b)) (first-append c (d ++ []) ∙ ap (λ (ds : List Fault). earlier (first c) (first ds)) (append-nil d)))
+    ∙ ap (earlier (first a))
+    (first-append b (c ++ (d ++ []))
+    ∙ ap (earlier (first b)) (first-append c (d ++ []) ∙ ap (λ (ds : List Fault). earlier (first c) (first ds)) (append-nil d)))
     ∙ add-third (first a) (first b) (first c) (first d)
     ∙ ap (λ (o : Option Fault). earlier o (first d)) (sym (passed-is ps xs))

@@ -31,7 +31,8 @@ no-stranger known [] t ys e = go (isAmong known t) e
     go false e = absurd (clash cc)
 no-stranger known (x ∷ xs) t ys e = go (isAmong known x) e (λ q. no-stranger known xs t ys q)
   where
-    go : (b : Bool) → cond (not b) (x ∷ strangers known (xs ++ (t ∷ ys))) (strangers known (xs ++ (t ∷ ys))) ≡ [] → (strangers known (xs ++ (t ∷ ys)) ≡ [] → isAmong known t ≡ true) → isAmong known t ≡ true
+    go : (b : Bool) → cond (not b) (x ∷ strangers known (xs ++ (t ∷ ys))) (strangers known (xs ++ (t ∷ ys))) ≡ []
+        → (strangers known (xs ++ (t ∷ ys)) ≡ [] → isAmong known t ≡ true) → isAmong known t ≡ true
     go true e f = f e
     go false e f = absurd (clash cc)
 
@@ -42,7 +43,8 @@ none-left (x ∷ xs) ys e = absurd (clash cc)
 -- ---- a use is assigned before
 
 -- the uses of the call after `before` are known
-known-before : (known : List Token) (before : List Call) (c : Call) (after : List Call) → unwiredAfter known (before ++ (c ∷ after)) ≡ [] → strangers (known ++ allAssigned before) (used c) ≡ []
+known-before : (known : List Token) (before : List Call) (c : Call) (after : List Call) → unwiredAfter known (before ++ (c ∷ after)) ≡ []
+    → strangers (known ++ allAssigned before) (used c) ≡ []
 unfolding unwiredAfter allAssigned flatMap
 known-before known [] c after e =
     let q = none-left (faults 22 (starts (strangers known (used c)))) (unwiredAfter (known ++ assigned c) after) e in
@@ -52,12 +54,14 @@ known-before known (x ∷ before) c after e =
     rw (← append-assoc known (assigned x) (allAssigned before)) (known-before (known ++ assigned x) before c after (q .1))
 
 -- the first of the calls that assigns it
-found : (before after : List Call) (t : Token) → isAmong (allAssigned before) t ≡ true → AssignedBy (before ++ after) (assigner (before ++ after) t) (length before) t
+found : (before after : List Call) (t : Token) → isAmong (allAssigned before) t ≡ true
+    → AssignedBy (before ++ after) (assigner (before ++ after) t) (length before) t
 unfolding allAssigned flatMap assigner isAmong
 found [] after t e = absurd (clash cc)
 found (x ∷ before) after t e = go (isAmong (assigned x) t) refl (sym (among-append (assigned x) (allAssigned before) t) ∙ e) (λ q. found before after t q)
   where
-    go : (b : Bool) → isAmong (assigned x) t ≡ b → (b || isAmong (allAssigned before) t) ≡ true → (isAmong (allAssigned before) t ≡ true → AssignedBy (before ++ after) (assigner (before ++ after) t) (length before) t)
+    go : (b : Bool) → isAmong (assigned x) t ≡ b → (b || isAmong (allAssigned before) t) ≡ true
+        → (isAmong (allAssigned before) t ≡ true → AssignedBy (before ++ after) (assigner (before ++ after) t) (length before) t)
         → AssignedBy (x ∷ (before ++ after)) (cond b 0 (suc (assigner (before ++ after) t))) (suc (length before)) t
     go true p e f = record { earlier = []; call = x; later = before ++ after; stands = refl; index = refl; before = omega arith; assigns = p }
     go false p e f =
@@ -72,6 +76,7 @@ found (x ∷ before) after t e = go (isAmong (assigned x) t) refl (sym (among-ap
           assigns = r .assigns;
         }
 
-pub wired : (before : List Call) (c : Call) (after : List Call) (xs : List Token) (t : Token) (ys : List Token) → unwiredAfter [] (before ++ (c ∷ after)) ≡ [] → used c ≡ xs ++ (t ∷ ys)
+pub wired : (before : List Call) (c : Call) (after : List Call) (xs : List Token) (t : Token) (ys : List Token)
+    → unwiredAfter [] (before ++ (c ∷ after)) ≡ [] → used c ≡ xs ++ (t ∷ ys)
     → AssignedBy (before ++ (c ∷ after)) (assigner (before ++ (c ∷ after)) t) (length before) t
 wired before c after xs t ys e u = found before (c ∷ after) t (no-stranger (allAssigned before) xs t ys (rw u at (known-before [] before c after e)))

@@ -22,10 +22,20 @@ pub record Arguments (b : ℕ) (ts : List Token) (xs : List Arg) : Type 0 where
   pub behind : List Token
   pub read : row plain (commas rightRound) (argument b) ts ≡ ok xs behind
 
+-- the call c, read from place `at`, has its `=` at place `equal`
+pub record CallFrom (text table : List ℕ) (n at equal : ℕ) (c : Call) : Type 0 where
+  pub first : tokenAt text table at ≡ firstToken (c .left)
+  pub leads : (b : ℕ) (ws : List Token) → call b (toks text table n at) ≡ ok c ws → left b (toks text table n at) ≡ ok (c .left) (toks text table n (equal + 1))
+  pub assigns : namesAmong (toks text table equal at) ≡ assigned c
+  pub title : tokenAt text table (equal + 1) ≡ c .op
+  pub arguments : (b : ℕ) (ws : List Token) → call b (toks text table n at) ≡ ok c ws → Arguments b (toks text table n (equal + 3)) (c .args)
+  pub inside : (at < n) × (equal + 1 < n)
+
 -- the call c, read from place `at`, has its parts at the places p, and us after it
 pub record CallAt (text table : List ℕ) (n at : ℕ) (p : Places) (c : Call) (us : List Token) : Type 0 where
   pub first : tokenAt text table at ≡ firstToken (c .left)
-  pub leads : (b : ℕ) (ws : List Token) → call b (toks text table n at) ≡ ok c ws → left b (toks text table n at) ≡ ok (c .left) (toks text table n (p .equal + 1))
+  pub leads : (b : ℕ) (ws : List Token) → call b (toks text table n at) ≡ ok c ws
+      → left b (toks text table n at) ≡ ok (c .left) (toks text table n (p .equal + 1))
   pub assigns : namesAmong (toks text table (p .equal) at) ≡ assigned c
   pub title : tokenAt text table (p .equal + 1) ≡ c .op
   pub uses : usesAmong (toks text table (p .close) (p .equal + 3)) ≡ used c

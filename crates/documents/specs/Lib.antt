@@ -7,12 +7,16 @@ pub mod Tables
 pub mod Answer
 pub mod Accepted
 pub mod Wired
--- What only the contracts of the code cite: both texts; arguments; names, calls and documents.
+-- What only the contracts of the code cite: both texts; arguments; names, calls, their records, and documents.
 pub mod Stages
 pub mod Arguments
+pub mod Tallies
 pub mod Calls
-pub mod Walks
-pub mod Graphs
-pub mod Lookup
 pub mod Operations
+pub mod Naming
+pub mod Records
+pub mod Walks
+pub mod NameWalks
+pub mod Graphs
+pub mod Judged
 pub mod Checks

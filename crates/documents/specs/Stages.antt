@@ -13,6 +13,8 @@ use Rattle.lists.specs.Answer.{pass, stop, rulesStage}
 use Rattle.lists.specs.Stages.{ListPassed}
 use Rattle.documents.specs.DocumentRules.{documentFaults}
 use Rattle.documents.specs.Answer.{documentStages, bothStages}
+use Rattle.documents.specs.Records.{Kept}
+use Rattle.documents.specs.declared.stages.Sizes.{Sizes}
 use Rattle.documents.specs.declared.stages.Staged.{Staged}
 use Rattle.documents.specs.declared.stages.Staged.the-variants as S
 
@@ -39,11 +41,16 @@ pub record DocumentPassed (hs : List Header) (text work : List ℕ) (n : ℕ) : 
 -- ---- both texts
 
 -- both have passed; the list has n tokens and k operations, the document m tokens
-pub record BothPassed (list doc work₁ work₂ names : List ℕ) (n k m : ℕ) : Type 0 where
-  pub first : ListPassed list work₁ names n k
+pub record BothPassed (list doc work₁ work₂ index words : List ℕ) (n k m : ℕ) : Type 0 where
+  pub first : ListPassed list work₁ index words n k
   pub second : DocumentPassed (first .headers) doc work₂ m
 
+-- and the records of the document's calls and uses are kept
+pub record BothKept (list doc work₁ work₂ index words records : List ℕ) (s : Sizes) : Type 0 where
+  pub passed : BothPassed list doc work₁ work₂ index words (s .list) (s .operations) (s .document)
+  pub kept : Kept records (passed .first .headers) (passed .second .document) (s .calls) (s .uses)
+
 -- what the stages come to
-abbrev pub BothDone : List ℕ → List ℕ → List ℕ → List ℕ → List ℕ → Staged → Type 0
-BothDone list doc work₁ work₂ names (S.Passed n k m) = BothPassed list doc work₁ work₂ names n k m
-BothDone list doc work₁ work₂ names (S.Stopped r) = bothStages list doc ≡ stop r
+abbrev pub BothDone : List ℕ → List ℕ → List ℕ → List ℕ → List ℕ → List ℕ → List ℕ → Staged → Type 0
+BothDone list doc work₁ work₂ index words records (S.Passed s) = BothKept list doc work₁ work₂ index words records s
+BothDone list doc work₁ work₂ index words records (S.Stopped r) = bothStages list doc ≡ stop r

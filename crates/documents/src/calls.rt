@@ -27,7 +27,8 @@ pub struct Places {
 pub fn find(text: &[u8], table: &[u32], n: usize, at: usize, s: u32) -> usize
     requires { ⌜ Holds (now text) (now table) n ⌝ }
     requires { ⌜ s < theEnd ⌝ }
-    ensures { λ r. ⌜ (min at n ≤ r) × (r ≤ n) × (toks (now (text .entry)) (now (table .entry)) n r ≡ fromSymbol s (toks (now (text .entry)) (now (table .entry)) n at)) ⌝ }
+    ensures { λ r. ⌜ (min at n ≤ r) × (r ≤ n)
+        × (toks (now (text .entry)) (now (table .entry)) n r ≡ fromSymbol s (toks (now (text .entry)) (now (table .entry)) n at)) ⌝ }
 {
     let mut i = at;
     while i < n {
@@ -65,7 +66,8 @@ fn open_after(k: usize, s: u32) -> usize
 // The first place from `at` on where the bracket before `at` closes, or the end.
 pub fn closing(text: &[u8], table: &[u32], n: usize, at: usize) -> usize
     requires { ⌜ Holds (now text) (now table) n ⌝ }
-    ensures { λ r. ⌜ (min at n ≤ r) × (r ≤ n) × (toks (now (text .entry)) (now (table .entry)) n r ≡ fromClose 1 (toks (now (text .entry)) (now (table .entry)) n at)) ⌝ }
+    ensures { λ r. ⌜ (min at n ≤ r) × (r ≤ n)
+        × (toks (now (text .entry)) (now (table .entry)) n r ≡ fromClose 1 (toks (now (text .entry)) (now (table .entry)) n at)) ⌝ }
 {
     let mut depth = 1;
     let mut i = at;
@@ -80,7 +82,7 @@ pub fn closing(text: &[u8], table: &[u32], n: usize, at: usize) -> usize
 }
 
 // The place after a call whose arguments close at place `close`: past a semicolon, where there is one.
-fn after_call(text: &[u8], table: &[u32], n: usize, close: usize) -> usize
+pub fn after_call(text: &[u8], table: &[u32], n: usize, close: usize) -> usize
     requires { ⌜ Holds (now text) (now table) n ⌝ }
     requires { ⌜ close ≤ n ⌝ }
     ensures { λ r. ⌜ r ≡ cond (begins semicolon (toks (now (text .entry)) (now (table .entry)) n (close + 1))) (close + 2) (close + 1) ⌝ }
@@ -96,7 +98,10 @@ pub fn places_at(text: &[u8], table: &[u32], n: usize, at: usize) -> Places
     requires { ⌜ Holds (now text) (now table) n ⌝ }
     requires { ⌜ at ≤ n ⌝ }
     ensures { λ r. ⌜ PlacesInside n at r ⌝ }
-    ensures { λ r. ⌜ ((b : ℕ) (c : Call) (us : List Token) → call b (toks (now (text .entry)) (now (table .entry)) n at) ≡ ok c us → CallAt (now (text .entry)) (now (table .entry)) n at r c us) ⌝ }
+    ensures { λ r. ⌜
+        ((b : ℕ) (c : Call) (us : List Token) → call b (toks (now (text .entry)) (now (table .entry)) n at) ≡ ok c us
+        → CallAt (now (text .entry)) (now (table .entry)) n at r c us)
+        ⌝ }
 {
     let equal = find(text, table, n, at, Symbol::EQUAL);
     let close = closing(text, table, n, equal + 3);

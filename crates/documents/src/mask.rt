@@ -1,49 +1,23 @@
-// Masks of parameters: bit k is parameter k.
+// The first parameter that a mask of those required has and a mask of those bound lacks.
 use crate::code::Code;
 use lists::best::Best;
 ghost use mathlib.Core.Path.{_≡_};
 ghost use mathlib.Core.Bool.{Bool};
-ghost use mathlib.Core.List.{List, [], _∷_, _++_};
-ghost use Prim.Native.Nat.{_<_, _≤_};
-ghost use lib.ListN.{length, getD, set};
+ghost use mathlib.Core.List.{List};
+ghost use Prim.Native.Nat.{_≤_};
+ghost use lib.ListN.{length};
 ghost use Rattle.lists.specs.Fault.{first};
 ghost use Rattle.lists.specs.Best.{meant};
+ghost use Rattle.lists.specs.Masks.{maskOf};
 ghost use Rattle.documents.specs.Binding.{lacked};
-ghost use Rattle.documents.specs.Arguments.{maskOf, without};
-
-// A mask has room for as many parameters as an operation may have.
-pub const MASK_BITS: u32 = 32;
-
-// Whether parameter k is in the mask.
-pub fn holds(mask: u32, k: u32) -> bool
-    requires { ⌜ k < 32 ⌝ }
-    ensures { λ r. ⌜ ((bs : List Bool) → mask ≡ maskOf bs → r ≡ getD bs k Bool.false) ⌝ }
-{
-    (mask >> k) & 1 == 1
-}
-
-// The mask with parameter k in it too.
-pub fn with(mask: u32, k: u32) -> u32
-    requires { ⌜ k < 32 ⌝ }
-    ensures { λ r. ⌜ ((bs : List Bool) → mask ≡ maskOf bs → k < length bs → r ≡ maskOf (set bs k Bool.true)) ⌝ }
-{
-    mask | (1 << k)
-}
-
-// The mask of k parameters with one more, which is in it or not.
-pub fn extended(mask: u32, k: u32, is_in: bool) -> u32
-    requires { ⌜ k < 32 ⌝ }
-    ensures { λ r. ⌜ ((bs : List Bool) → mask ≡ maskOf bs → k ≡ length bs → r ≡ maskOf (bs ++ (is_in ∷ []))) ⌝ }
-{
-    if is_in {
-        return with(mask, k);
-    }
-    mask
-}
+ghost use Rattle.documents.specs.Arguments.{without};
 
 // Code 19 at this place, with the first parameter that is required and not bound.
 pub fn first_missing(required: u32, bound: u32, place: u32) -> Best
-    ensures { λ r. ⌜ ((rs bs : List Bool) → required ≡ maskOf rs → bound ≡ maskOf bs → length rs ≤ 32 → length bs ≤ 32 → meant r ≡ first (lacked place 0 (without rs bs))) ⌝ }
+    ensures { λ r. ⌜
+        ((rs bs : List Bool) → required ≡ maskOf rs → bound ≡ maskOf bs → length rs ≤ 32 → length bs ≤ 32
+        → meant r ≡ first (lacked place 0 (without rs bs)))
+        ⌝ }
 {
     let missing = required & !bound;
     if missing == 0 {

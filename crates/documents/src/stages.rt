@@ -1,5 +1,6 @@
 // The stages of both texts, shared by the operations on a document: those of the list, then those of the document under it.
-use crate::usage::document_rules;
+use crate::document::document_rules;
+use index::layout::Layout;
 use lexis::Answer;
 use lexis::Counted;
 use lexis::class::CLASSES;
@@ -8,16 +9,26 @@ use lists::list::list_stages;
 use syntax::Syntax;
 use syntax::read;
 ghost use mathlib.Core.Path.{_≡_};
-ghost use Prim.Native.Nat.{_≤_};
+ghost use Prim.Native.Nat.{_≤_, min};
 ghost use lib.ListN.{length};
 ghost use Rattle.lexis.specs.Bytes.{classTable};
 ghost use Rattle.lexis.specs.Sizes.{maxText, maxTokens, workWords};
-ghost use Rattle.lists.specs.Stages.{ListPassed};
+ghost use Rattle.lists.specs.Stages.{Served, ListPassed};
+ghost use Rattle.documents.specs.Records.{recordsWords};
 ghost use Rattle.documents.specs.Stages.{DocumentRead, BothDone};
 
-// What the stages of both texts come to: the tokens and operations of the list and the tokens of the document, or a refusal.
+// How many tokens and operations the list has, and how many tokens, calls and uses the document.
+pub struct Sizes {
+    pub list: usize,
+    pub operations: usize,
+    pub document: usize,
+    pub calls: usize,
+    pub uses: usize,
+}
+
+// What the stages of both texts come to: their sizes, or a refusal.
 pub enum Staged {
-    Passed(usize, usize, usize),
+    Passed(Sizes),
     Stopped(Answer),
 }
 
@@ -26,19 +37,35 @@ fn rules_stage(
     list: &[u8],
     work1: &[u32],
     n: usize,
-    names: &[u32],
+    lindex: &[u16],
+    words: &[u32],
     k: usize,
     doc: &[u8],
     work2: &[u32],
     m: usize,
+    records: &mut [u16],
 ) -> Staged
-    requires { ⌜ ListPassed (now list) (now work1) (now names) n k ⌝ }
+    requires { ⌜ ListPassed (now list) (now work1) (now lindex) (now words) n k ⌝ }
     requires { ⌜ DocumentRead (now doc) (now work2) m ⌝ }
-    requires { ⌜ maxTokens ≤ length (now names) ⌝ }
-    ensures { λ r. ⌜ BothDone (now (list .entry)) (now (doc .entry)) (now (work1 .entry)) (now (work2 .entry)) (now (names .entry)) r ⌝ }
+    requires { ⌜ (length (now doc) ≤ maxText) × (recordsWords ≤ length (now records)) ⌝ }
+    ensures { λ r. ⌜ BothDone (now (list .entry)) (now (doc .entry)) (now (work1 .entry)) (now (work2 .entry)) (now (lindex .entry)) (now (words .entry))
+        (now (records .exit)) r ⌝ }
 {
-    let best = document_rules(list, work1, n, &names[0..k], doc, work2, m);
-    if best.code != 0 {
+    let mut index = [0u16; Layout::WORDS];
+    let ruled = document_rules(
+        list,
+        work1,
+        n,
+        lindex,
+        words,
+        doc,
+        work2,
+        m,
+        &mut index,
+        records,
+    );
+    let best = ruled.best;
+    if best.code != lexis::code::Code::ACCEPTED {
         return Staged::Stopped(Answer {
             code: best.code,
             text: 2,
@@ -46,7 +73,13 @@ fn rules_stage(
             detail: best.detail,
         });
     }
-    Staged::Passed(n, k, m)
+    Staged::Passed(Sizes {
+        list: n,
+        operations: k,
+        document: m,
+        calls: ruled.calls,
+        uses: ruled.uses,
+    })
 }
 
 // The stages of a document under a list that has passed its own.
@@ -55,20 +88,34 @@ fn document_stages(
     list: &[u8],
     work1: &[u32],
     n: usize,
-    names: &[u32],
+    lindex: &[u16],
+    words: &[u32],
     k: usize,
     doc: &[u8],
     work2: &mut [u32],
+    records: &mut [u16],
 ) -> Staged
     requires { ⌜ now classes ≡ classTable ⌝ }
-    requires { ⌜ ListPassed (now list) (now work1) (now names) n k ⌝ }
+    requires { ⌜ ListPassed (now list) (now work1) (now lindex) (now words) n k ⌝ }
     requires { ⌜ length (now doc) ≤ maxText ⌝ }
-    requires { ⌜ (maxTokens ≤ length (now names)) × (workWords ≤ length (now work2)) ⌝ }
-    ensures { λ r. ⌜ BothDone (now (list .entry)) (now (doc .entry)) (now (work1 .entry)) (now (work2 .exit)) (now (names .entry)) r ⌝ }
+    requires { ⌜ (workWords ≤ length (now work2)) × (recordsWords ≤ length (now records)) ⌝ }
+    ensures { λ r. ⌜ BothDone (now (list .entry)) (now (doc .entry)) (now (work1 .entry)) (now (work2 .exit)) (now (lindex .entry)) (now (words .entry))
+        (now (records .exit)) r ⌝ }
     ensures { λ _. ⌜ length (now (work2 .exit)) ≡ length (now (work2 .entry)) ⌝ }
 {
     match read(classes, doc, &mut *work2, Syntax::Document) {
-        Counted::Tokens(m) => rules_stage(list, work1, n, names, k, doc, work2, m as usize),
+        Counted::Tokens(m) => rules_stage(
+            list,
+            work1,
+            n,
+            lindex,
+            words,
+            k,
+            doc,
+            work2,
+            m as usize,
+            records,
+        ),
         Counted::Fault { code, at } => Staged::Stopped(Answer {
             code: code,
             text: 2,
@@ -78,23 +125,40 @@ fn document_stages(
     }
 }
 
-// All stages of both texts. Where they pass, the work areas hold both tables, and `names` begins with the directory of the list; else anything.
+// All stages of both texts. Where they pass, the work areas hold both tables, `words` has the directory of the list and `lindex` its names, and `records`
+// has the
+// records of the document's calls and wires; else anything.
 pub fn both_stages(
     list: &[u8],
     doc: &[u8],
     work1: &mut [u32],
     work2: &mut [u32],
-    names: &mut [u32],
+    lindex: &mut [u16],
+    words: &mut [u32],
+    records: &mut [u16],
 ) -> Staged
     requires { ⌜ (length (now list) ≤ maxText) × (length (now doc) ≤ maxText) ⌝ }
-    requires { ⌜ (workWords ≤ length (now work1)) × ((workWords ≤ length (now work2)) × (maxTokens ≤ length (now names))) ⌝ }
-    ensures { λ r. ⌜ BothDone (now (list .entry)) (now (doc .entry)) (now (work1 .exit)) (now (work2 .exit)) (now (names .exit)) r ⌝ }
+    requires { ⌜ (workWords ≤ length (now work1)) × ((workWords ≤ length (now work2)) × (recordsWords ≤ length (now records))) ⌝ }
+    requires { ⌜ Served (now lindex) (now words) (min (length (now list)) maxTokens) ⌝ }
+    ensures { λ r. ⌜ BothDone (now (list .entry)) (now (doc .entry)) (now (work1 .exit)) (now (work2 .exit)) (now (lindex .exit)) (now (words .exit))
+        (now (records .exit)) r ⌝ }
     ensures { λ _. ⌜ length (now (work1 .exit)) ≡ length (now (work1 .entry)) ⌝ }
     ensures { λ _. ⌜ length (now (work2 .exit)) ≡ length (now (work2 .entry)) ⌝ }
 {
     let classes = CLASSES;
-    match list_stages(&classes, list, &mut *work1, &mut *names) {
-        Listed::Passed(n, k) => document_stages(&classes, list, work1, n, names, k, doc, work2),
+    match list_stages(&classes, list, &mut *work1, &mut *lindex, &mut *words) {
+        Listed::Passed(n, k) => document_stages(
+            &classes,
+            list,
+            work1,
+            n,
+            lindex,
+            words,
+            k,
+            doc,
+            work2,
+            records,
+        ),
         Listed::Stopped(r) => Staged::Stopped(r),
     }
 }

@@ -1,34 +1,46 @@
-// Assigning and using identifiers: which call assigns one, and the faults of names in lists, left sides and arguments. The search here
-// is linear.
-use crate::calls::places_at;
+// Identifiers of a body: assigned on left sides, used in arguments. The index of names has for each what it is in the header, and the
+// first call that assigns it.
 use crate::code::Code;
+use crate::records::wire;
+use index::enter;
+use index::keep_word;
+use index::look_up;
+use index::token::bytes_at;
+use index::word_of;
 use lexis::limits::Limits;
 use lexis::symbol::Symbol;
 use lists::best::Best;
-use lists::names::seen;
 use lists::word::start_at;
 use syntax::symbol::symbol_at;
 ghost use mathlib.Core.Path.{_≡_};
-ghost use mathlib.Core.Bool.{not};
-ghost use mathlib.Core.List.{List, _∷_, [], _++_};
-ghost use Prim.Native.Nat.{ℕ, suc, _+_, _-_, _<_, _≤_};
+ghost use mathlib.Core.Bool.{cond};
+ghost use mathlib.Core.List.{_∷_, []};
+ghost use Prim.Native.Nat.{suc, _+_, _-_, _<_, _≤_};
+ghost use lib.Dec.{eqb, ltb};
 ghost use lib.ListN.{length};
-ghost use Rattle.lexis.specs.Lexer.{Token};
-ghost use Rattle.syntax.specs.Tree.{Call};
+ghost use Rattle.lexis.specs.Sizes.{maxText, maxTokens};
 ghost use Rattle.syntax.specs.Table.{tokenAt, toks, Holds};
-ghost use Rattle.lists.specs.Fault.{first, earlier};
+ghost use Rattle.index.specs.Indexed.{Walkable};
+ghost use Rattle.lists.specs.Fault.{earlier};
 ghost use Rattle.lists.specs.Best.{meant};
-ghost use Rattle.lists.specs.Names.{isAmong, allAssigned};
 ghost use Rattle.lists.specs.Scans.{isUse, namesAmong, usesAmong, usesHere};
-ghost use Rattle.lists.specs.Walks.{scan};
-ghost use Rattle.documents.specs.Calls.{Calls};
-ghost use Rattle.documents.specs.Walks.{listing, misfeeds, assigning, consuming};
-ghost use Rattle.documents.specs.Lookup.{assignerOf};
+ghost use Rattle.documents.specs.Walks.{misfeeds, coded};
+ghost use Rattle.documents.specs.Records.{recordsWords, wired};
+ghost use Rattle.documents.specs.NameWalks.{Assigns, Uses};
 
-// The call that assigns an identifier, by its index, or none.
-pub enum Assigner {
-    Call(usize),
-    Nobody,
+// The words of a name in the index.
+pub struct Word {}
+
+impl Word {
+    // What it is in the header: an input, an output, or 0.
+    pub const LISTING: usize = 0;
+
+    // The first call that assigns it, counted from 1, or 0.
+    pub const ASSIGNER: usize = 1;
+
+    pub const INPUT: usize = 1;
+
+    pub const OUTPUT: usize = 2;
 }
 
 // The first fault of names, and how many names there are.
@@ -37,54 +49,32 @@ pub struct Tally {
     pub count: usize,
 }
 
-// The first call that assigns the name at place t, of the calls from place `body` up to place `until`.
-pub fn find_assigner(
-    text: &[u8],
-    table: &[u32],
-    n: usize,
-    body: usize,
-    until: usize,
-    t: usize,
-) -> Assigner
-    requires { ⌜ Holds (now text) (now table) n ⌝ }
-    requires { ⌜ (until ≤ n) × (t < n) ⌝ }
-    ensures { λ r. ⌜ ((b : ℕ) (cs : List Call) → Calls b (toks (now (text .entry)) (now (table .entry)) n body) cs (toks (now (text .entry)) (now (table .entry)) n until) → r ≡ assignerOf cs (tokenAt (now (text .entry)) (now (table .entry)) t)) ⌝ }
-{
-    let mut k = 0;
-    let mut i = body;
-    while i < until {
-        let places = places_at(text, table, n, i);
-        if seen(text, table, n, i, places.equal, t) {
-            return Assigner::Call(k);
+impl Tally {
+    // One name more, and the fault of this code at this place, if the code is not 0.
+    pub fn next(self, code: u32, place: u32) -> Tally
+        requires { ⌜ self .count < maxTokens ⌝ }
+        ensures { λ r. ⌜ (meant (r .best) ≡ earlier (meant (self .best)) (coded code place)) × (r .count ≡ self .count + 1) ⌝ }
+    {
+        let here = Best {
+            at: place,
+            code: code,
+            detail: 0,
+        };
+        Tally {
+            best: self.best.earlier(here),
+            count: self.count + 1,
         }
-        k += 1;
-        i = places.next;
-    }
-    Assigner::Nobody
-}
-
-// Whether none of those calls assigns it.
-fn is_unknown(text: &[u8], table: &[u32], n: usize, body: usize, until: usize, t: usize) -> bool
-    requires { ⌜ Holds (now text) (now table) n ⌝ }
-    requires { ⌜ (until ≤ n) × (t < n) ⌝ }
-    ensures { λ r. ⌜ ((b : ℕ) (cs : List Call) → Calls b (toks (now (text .entry)) (now (table .entry)) n body) cs (toks (now (text .entry)) (now (table .entry)) n until) → r ≡ not (isAmong (allAssigned cs) (tokenAt (now (text .entry)) (now (table .entry)) t))) ⌝ }
-{
-    match find_assigner(text, table, n, body, until, t) {
-        Assigner::Call(k) => false,
-        Assigner::Nobody => true,
     }
 }
 
-// Whether the name at place i is assigned before: by one of those calls, or at the places from `until` up to i.
-fn is_again(text: &[u8], table: &[u32], n: usize, body: usize, until: usize, i: usize) -> bool
-    requires { ⌜ Holds (now text) (now table) n ⌝ }
-    requires { ⌜ (until ≤ n) × (i < n) ⌝ }
-    ensures { λ r. ⌜ ((b : ℕ) (cs : List Call) → Calls b (toks (now (text .entry)) (now (table .entry)) n body) cs (toks (now (text .entry)) (now (table .entry)) n until) → r ≡ isAmong (allAssigned cs ++ namesAmong (toks (now (text .entry)) (now (table .entry)) i until)) (tokenAt (now (text .entry)) (now (table .entry)) i)) ⌝ }
+// A code where the test holds, else another.
+pub fn code_if(test: bool, code: u32, other: u32) -> u32
+    ensures { λ r. ⌜ r ≡ cond test code other ⌝ }
 {
-    if is_unknown(text, table, n, body, until, i) {
-        return seen(text, table, n, until, i, i);
+    if test {
+        return code;
     }
-    true
+    other
 }
 
 // Whether an identifier is assigned by the wrong operation: an input by another one than `external`, or another identifier by it.
@@ -97,136 +87,72 @@ fn misfeeds(external: bool, input: bool) -> bool
     input
 }
 
-// The faults of an input or output at place i after `count` others: beyond the size, or never assigned.
-fn listed_at(
-    text: &[u8],
-    table: &[u32],
-    n: usize,
-    body: usize,
-    until: usize,
-    i: usize,
-    tally: Tally,
-    size: usize,
-    code: u32,
-) -> Tally
-    requires { ⌜ Holds (now text) (now table) n ⌝ }
-    requires { ⌜ (until ≤ n) × (i < n) × (0 < code) × (tally .count ≤ i) ⌝ }
-    ensures { λ r. ⌜ r .count ≤ suc i ⌝ }
-    ensures { λ r. ⌜ ((b : ℕ) (cs : List Call) (ss : List Token) → Calls b (toks (now (text .entry)) (now (table .entry)) n body) cs (toks (now (text .entry)) (now (table .entry)) n until) → tally .count ≡ length ss → (meant (r .best) ≡ earlier (meant (tally .best)) (first (scan (listing size code (allAssigned cs)) ss (namesAmong (tokenAt (now (text .entry)) (now (table .entry)) i ∷ []))))) × (r .count ≡ length (ss ++ namesAmong (tokenAt (now (text .entry)) (now (table .entry)) i ∷ [])))) ⌝ }
-{
-    if symbol_at(text, table, n, i) != Symbol::NAME {
-        return tally;
-    }
-    let next = tally.count + 1;
-    let place = start_at(table, i);
-    let beyond = Best::fault_if(tally.count == size, lists::code::Code::OVER_SIZE, place);
-    let unmade = Best::fault_if(is_unknown(text, table, n, body, until, i), code, place);
-    Tally {
-        best: tally.best.earlier(beyond.earlier(unmade)),
-        count: next,
-    }
-}
-
-// The first fault of the inputs or outputs at the places from `from` up to `to`.
-pub fn listed(
-    text: &[u8],
-    table: &[u32],
-    n: usize,
-    body: usize,
-    until: usize,
-    from: usize,
-    to: usize,
-    size: usize,
-    code: u32,
-) -> Best
-    requires { ⌜ Holds (now text) (now table) n ⌝ }
-    requires { ⌜ (until ≤ n) × (to ≤ n) × (0 < code) ⌝ }
-    ensures { λ r. ⌜ ((b : ℕ) (cs : List Call) → Calls b (toks (now (text .entry)) (now (table .entry)) n body) cs (toks (now (text .entry)) (now (table .entry)) n until) → meant r ≡ first (scan (listing size code (allAssigned cs)) [] (namesAmong (toks (now (text .entry)) (now (table .entry)) to from)))) ⌝ }
-{
-    let mut tally = Tally {
-        best: Best::none(),
-        count: 0,
-    };
-    let mut i = from;
-    while i < to {
-        tally = listed_at(text, table, n, body, until, i, tally, size, code);
-        i += 1;
-    }
-    tally.best
-}
-
-// The faults of an identifier at place i of a left side that begins at place `at`: beyond the size, assigned again, or fed wrongly.
-// The graph's inputs stand from place 5 up to place `inputs`.
+// The identifier at place i of the left side of call k, if there is one: beyond the size, assigned again, or fed wrongly.
 fn assigned_at(
     text: &[u8],
     table: &[u32],
     n: usize,
-    body: usize,
-    inputs: usize,
-    at: usize,
     i: usize,
+    k: usize,
     external: bool,
+    index: &mut [u16],
     tally: Tally,
 ) -> Tally
     requires { ⌜ Holds (now text) (now table) n ⌝ }
-    requires { ⌜ (at ≤ n) × (i < n) × (inputs ≤ n) × (tally .count ≤ i) ⌝ }
-    ensures { λ r. ⌜ r .count ≤ suc i ⌝ }
-    ensures { λ r. ⌜ ((b : ℕ) (cs : List Call) → Calls b (toks (now (text .entry)) (now (table .entry)) n body) cs (toks (now (text .entry)) (now (table .entry)) n at) → tally .count ≡ length (allAssigned cs ++ namesAmong (toks (now (text .entry)) (now (table .entry)) i at)) → (meant (r .best) ≡ earlier (meant (tally .best)) (first (scan (assigning (namesAmong (toks (now (text .entry)) (now (table .entry)) inputs 5)) external) (allAssigned cs ++ namesAmong (toks (now (text .entry)) (now (table .entry)) i at)) (namesAmong (tokenAt (now (text .entry)) (now (table .entry)) i ∷ []))))) × (r .count ≡ length ((allAssigned cs ++ namesAmong (toks (now (text .entry)) (now (table .entry)) i at)) ++ namesAmong (tokenAt (now (text .entry)) (now (table .entry)) i ∷ [])))) ⌝ }
+    requires { ⌜ (i < n) × (i < maxTokens) × (k ≤ i) × (tally .count ≤ i) ⌝ }
+    requires { ⌜ Walkable (now index) i n ⌝ }
+    ensures { λ r. ⌜ (tally .count ≤ r .count) × (r .count ≤ suc i) ⌝ }
+    ensures { λ _. ⌜ Walkable (now (index .exit)) (i + 1) n ⌝ }
+    ensures { λ r. ⌜ Assigns (now (text .entry)) (now (table .entry)) (now (index .entry)) (now (index .exit)) i (i + 1) k external
+        (namesAmong (tokenAt (now (text .entry)) (now (table .entry)) i ∷ [])) tally r ⌝ }
 {
     if symbol_at(text, table, n, i) != Symbol::NAME {
         return tally;
     }
-    let next = tally.count + 1;
-    let place = start_at(table, i);
-    let beyond = Best::fault_if(
+    let p = enter(text, table, n, &mut *index, i);
+    let input = word_of(index, p, Word::LISTING) == Word::INPUT;
+    let had = keep_word(&mut *index, p, Word::ASSIGNER, k + 1);
+    let fed = code_if(misfeeds(external, input), Code::MISFED, 0);
+    let again = code_if(had != 0, Code::ASSIGNED_AGAIN, fed);
+    let code = code_if(
         tally.count == Limits::ASSIGNED,
         lists::code::Code::OVER_SIZE,
-        place,
+        again,
     );
-    let again = Best::fault_if(
-        is_again(text, table, n, body, at, i),
-        Code::ASSIGNED_AGAIN,
-        place,
-    );
-    let input = seen(text, table, n, 5, inputs, i);
-    let misfed = Best::fault_if(misfeeds(external, input), Code::MISFED, place);
-    Tally {
-        best: tally.best.earlier(beyond.earlier(again.earlier(misfed))),
-        count: next,
-    }
+    tally.next(code, start_at(table, i))
 }
 
-// The first fault of a left side from place `at` up to place `equal`, after `count` identifiers of left sides, and their number after it.
+// The identifiers of the left side of call k, from place `at` up to place `equal`.
 pub fn assigned(
     text: &[u8],
     table: &[u32],
     n: usize,
-    body: usize,
-    inputs: usize,
     at: usize,
     equal: usize,
+    k: usize,
     external: bool,
-    count: usize,
+    index: &mut [u16],
+    tally: Tally,
 ) -> Tally
     requires { ⌜ Holds (now text) (now table) n ⌝ }
-    requires { ⌜ (at ≤ equal) × (equal ≤ n) × (inputs ≤ n) × (count ≤ at) ⌝ }
-    ensures { λ r. ⌜ r .count ≤ equal ⌝ }
-    ensures { λ r. ⌜ ((b : ℕ) (cs : List Call) → Calls b (toks (now (text .entry)) (now (table .entry)) n body) cs (toks (now (text .entry)) (now (table .entry)) n at) → count ≡ length (allAssigned cs) → (meant (r .best) ≡ first (scan (assigning (namesAmong (toks (now (text .entry)) (now (table .entry)) inputs 5)) external) (allAssigned cs) (namesAmong (toks (now (text .entry)) (now (table .entry)) equal at)))) × (r .count ≡ length (allAssigned cs ++ namesAmong (toks (now (text .entry)) (now (table .entry)) equal at)))) ⌝ }
+    requires { ⌜ (at ≤ equal) × (equal ≤ n) × (n ≤ maxTokens) × (k ≤ at) × (tally .count ≤ at) ⌝ }
+    requires { ⌜ Walkable (now index) at n ⌝ }
+    ensures { λ r. ⌜ (tally .count ≤ r .count) × (r .count ≤ equal) ⌝ }
+    ensures { λ _. ⌜ Walkable (now (index .exit)) equal n ⌝ }
+    ensures { λ r. ⌜ Assigns (now (text .entry)) (now (table .entry)) (now (index .entry)) (now (index .exit)) at equal k external
+        (namesAmong (toks (now (text .entry)) (now (table .entry)) equal at)) tally r ⌝ }
 {
-    let mut tally = Tally {
-        best: Best::none(),
-        count: count,
-    };
+    let mut sum = tally;
     let mut i = at;
     while i < equal {
-        tally = assigned_at(text, table, n, body, inputs, at, i, external, tally);
+        sum = assigned_at(text, table, n, i, k, external, &mut *index, sum);
         i += 1;
     }
-    tally
+    sum
 }
 
 // Whether a use stands at place i of arguments that end before place `to`: a name that no `=` follows.
-pub fn is_use(text: &[u8], table: &[u32], n: usize, to: usize, i: usize) -> bool
+fn is_use(text: &[u8], table: &[u32], n: usize, to: usize, i: usize) -> bool
     requires { ⌜ Holds (now text) (now table) n ⌝ }
     requires { ⌜ (to ≤ n) × (i < to) ⌝ }
     ensures { λ r. ⌜ r ≡ isUse (tokenAt (now (text .entry)) (now (table .entry)) i) (toks (now (text .entry)) (now (table .entry)) to (i + 1)) ⌝ }
@@ -237,68 +163,98 @@ pub fn is_use(text: &[u8], table: &[u32], n: usize, to: usize, i: usize) -> bool
     symbol_at(text, table, to, i + 1) != Symbol::EQUAL
 }
 
-// The faults of a use at place i of a call that begins at place `at`: beyond the size, or not assigned by an earlier call.
+// Whether none of k calls is counted a from 1.
+fn is_unwired(a: usize, k: usize) -> bool
+    ensures { λ r. ⌜ r ≡ cond (eqb a 0) (eqb a 0) (ltb k a) ⌝ }
+{
+    if a == 0 {
+        return true;
+    }
+    k < a
+}
+
+// The index of the one of k calls that is counted a from 1; 0 where there is none.
+fn wired(a: usize, k: usize) -> usize
+    ensures { λ r. ⌜ (r ≡ wired a k) × (r ≤ k) ⌝ }
+{
+    if a == 0 {
+        return 0;
+    }
+    if k < a {
+        return 0;
+    }
+    a - 1
+}
+
+// The use at place i of the arguments of call k, if there is one: beyond the size, or not assigned by an earlier call. Its wire is stored.
 fn used_at(
     text: &[u8],
     table: &[u32],
     n: usize,
-    body: usize,
-    at: usize,
     to: usize,
     i: usize,
+    k: usize,
+    index: &[u16],
+    records: &mut [u16],
     tally: Tally,
 ) -> Tally
     requires { ⌜ Holds (now text) (now table) n ⌝ }
-    requires { ⌜ (at ≤ n) × (to ≤ n) × (i < to) × (tally .count ≤ i) ⌝ }
-    ensures { λ r. ⌜ r .count ≤ suc (tally .count) ⌝ }
-    ensures { λ r. ⌜ ((b : ℕ) (cs : List Call) (ss : List Token) → Calls b (toks (now (text .entry)) (now (table .entry)) n body) cs (toks (now (text .entry)) (now (table .entry)) n at) → tally .count ≡ length ss → (meant (r .best) ≡ earlier (meant (tally .best)) (first (scan (consuming (allAssigned cs)) ss (usesHere (tokenAt (now (text .entry)) (now (table .entry)) i) (toks (now (text .entry)) (now (table .entry)) to (i + 1)))))) × (r .count ≡ length (ss ++ usesHere (tokenAt (now (text .entry)) (now (table .entry)) i) (toks (now (text .entry)) (now (table .entry)) to (i + 1))))) ⌝ }
+    requires { ⌜ (to ≤ n) × (i < to) × (i < maxTokens) × (k ≤ maxTokens) × (tally .count ≤ i) ⌝ }
+    requires { ⌜ (length (now text) ≤ maxText) × (recordsWords ≤ length (now records)) ⌝ }
+    requires { ⌜ Walkable (now index) n n ⌝ }
+    ensures { λ r. ⌜ (tally .count ≤ r .count) × (r .count ≤ suc (tally .count)) ⌝ }
+    ensures { λ _. ⌜ length (now (records .exit)) ≡ length (now (records .entry)) ⌝ }
+    ensures { λ r. ⌜ Uses (now (text .entry)) (now (table .entry)) (now (index .entry)) (now (records .entry)) (now (records .exit)) k
+        (usesHere (tokenAt (now (text .entry)) (now (table .entry)) i) (toks (now (text .entry)) (now (table .entry)) to (i + 1))) tally r ⌝ }
 {
-    if is_use(text, table, n, to, i) {
-        let next = tally.count + 1;
-        let place = start_at(table, i);
-        let beyond = Best::fault_if(
-            tally.count == Limits::USES,
-            lists::code::Code::OVER_SIZE,
-            place,
-        );
-        let unwired = Best::fault_if(
-            is_unknown(text, table, n, body, at, i),
-            Code::UNASSIGNED_USE,
-            place,
-        );
-        return Tally {
-            best: tally.best.earlier(beyond.earlier(unwired)),
-            count: next,
-        };
+    if !is_use(text, table, n, to, i) {
+        return tally;
     }
-    tally
+    let place = start_at(table, i);
+    let a = look_up(
+        text,
+        table,
+        n,
+        index,
+        bytes_at(text, table, n, i),
+        Word::ASSIGNER,
+    );
+    wire(&mut *records, tally.count, place, wired(a, k));
+    let unwired = code_if(is_unwired(a, k), Code::UNASSIGNED_USE, 0);
+    let code = code_if(
+        tally.count == Limits::USES,
+        lists::code::Code::OVER_SIZE,
+        unwired,
+    );
+    tally.next(code, place)
 }
 
-// The first fault of the arguments from place `from` up to place `to` of a call that begins at place `at`, after `count` uses, and the
-// number of uses after it.
+// The uses of the arguments of call k from place `from` up to place `to`.
 pub fn used(
     text: &[u8],
     table: &[u32],
     n: usize,
-    body: usize,
-    at: usize,
     from: usize,
     to: usize,
-    count: usize,
+    k: usize,
+    index: &[u16],
+    records: &mut [u16],
+    tally: Tally,
 ) -> Tally
     requires { ⌜ Holds (now text) (now table) n ⌝ }
-    requires { ⌜ (at ≤ n) × (to ≤ n) × (count ≤ from) ⌝ }
-    ensures { λ r. ⌜ r .count ≤ count + (to - from) ⌝ }
-    ensures { λ r. ⌜ ((b : ℕ) (cs : List Call) (ss : List Token) → Calls b (toks (now (text .entry)) (now (table .entry)) n body) cs (toks (now (text .entry)) (now (table .entry)) n at) → count ≡ length ss → (meant (r .best) ≡ first (scan (consuming (allAssigned cs)) ss (usesAmong (toks (now (text .entry)) (now (table .entry)) to from)))) × (r .count ≡ length (ss ++ usesAmong (toks (now (text .entry)) (now (table .entry)) to from)))) ⌝ }
+    requires { ⌜ (to ≤ n) × (n ≤ maxTokens) × (k ≤ maxTokens) × (tally .count ≤ from) ⌝ }
+    requires { ⌜ (length (now text) ≤ maxText) × (recordsWords ≤ length (now records)) ⌝ }
+    requires { ⌜ Walkable (now index) n n ⌝ }
+    ensures { λ r. ⌜ (tally .count ≤ r .count) × (r .count ≤ tally .count + (to - from)) ⌝ }
+    ensures { λ _. ⌜ length (now (records .exit)) ≡ length (now (records .entry)) ⌝ }
+    ensures { λ r. ⌜ Uses (now (text .entry)) (now (table .entry)) (now (index .entry)) (now (records .entry)) (now (records .exit)) k
+        (usesAmong (toks (now (text .entry)) (now (table .entry)) to from)) tally r ⌝ }
 {
-    let mut tally = Tally {
-        best: Best::none(),
-        count: count,
-    };
+    let mut sum = tally;
     let mut i = from;
     while i < to {
-        tally = used_at(text, table, n, body, at, to, i, tally);
+        sum = used_at(text, table, n, to, i, k, index, &mut *records, sum);
         i += 1;
     }
-    tally
+    sum
 }

@@ -1,11 +1,9 @@
 // The hash of a spelling, four bytes at a turn.
+use crate::layout::Layout;
 ghost use mathlib.Core.Path.{_≡_};
 ghost use Prim.Native.Nat.{_+_, _-_, _/_, _<_, _≤_};
-ghost use lib.ListN.{length, getD};
-ghost use Rattle.index.specs.Hash.{fourAt, mixed, mixes, shortHash, endsHash, hashOf, chainOf};
-
-// As many chains.
-const CHAINS: u64 = 1024;
+ghost use lib.ListN.{length};
+ghost use Rattle.index.specs.Hash.{fourAt, mixed, mixes, shortHash, hashOf, chainOf};
 
 // A byte as a term of a number.
 fn wide(b: u8) -> u64
@@ -81,5 +79,5 @@ pub fn hash(w: &[u8]) -> u64
 pub fn chain_of(w: &[u8]) -> usize
     ensures { λ r. ⌜ r ≡ chainOf (now (w .entry)) ⌝ }
 {
-    (hash(w) % CHAINS) as usize
+    hash(w) as usize % Layout::CHAINS
 }

@@ -17,7 +17,8 @@ use Rattle.lexis.specs.declared.Counted.{Counted}
 use Rattle.lexis.specs.declared.Counted.the-variants.{Tokens, Fault}
 
 -- what a copy of the records out of the work area leaves
-copied : (work work′ table table′ rs : List ℕ) (m : ℕ) → length rs ≡ m → m ≤ length work → m ≤ length table → work′ ≡ sets work 0 rs → table′ ≡ paste table 0 work′ m → table′ ≡ sets table 0 rs
+copied : (work work′ table table′ rs : List ℕ) (m : ℕ) → length rs ≡ m → m ≤ length work → m ≤ length table → work′ ≡ sets work 0 rs
+    → table′ ≡ paste table 0 work′ m → table′ ≡ sets table 0 rs
 copied work work′ table table′ rs m e hw ht ew et =
     let head : take m work′ ≡ rs = ap (take m) (ew ∙ sets-eq rs work 0 (omega arith)) ∙ take-at rs (drop (0 + length rs) work) m e in
     let same : 0 + m ≡ 0 + length rs = omega arith in
@@ -31,7 +32,8 @@ written-length (accepted ts) before after e = ap length e ∙ length-sets before
 written-length (refused c p) before after e = e
 
 module _ (l : Lexed) (work work′ : List ℕ) where
-  pub by-good : (n m : ℕ) (table table′ : List ℕ) → Tokens n ≡ countedAfter 0 l → Recorded false l work work′ → Room (Tokens n) (length work) → m ≡ n * tokenWords → tableWords ≤ length table → table′ ≡ paste table 0 work′ m
+  pub by-good : (n m : ℕ) (table table′ : List ℕ) → Tokens n ≡ countedAfter 0 l → Recorded false l work work′ → Room (Tokens n) (length work)
+      → m ≡ n * tokenWords → tableWords ≤ length table → table′ ≡ paste table 0 work′ m
       → (answer 0 0 0 n ≡ answerOf (countedAfter 0 l)) × (table′ ≡ recorded table l)
   by-good n m table table′ e w r q h p = (ap answerOf e, go l e w)
     where
@@ -58,7 +60,8 @@ module _ (text table : List ℕ) where
     unfolding tokensAnswer tokensTable
     long-text t = (rw (serves, t), rw (serves, t))
 
-    pub tokens-by : leb (length text) maxText ≡ true → (r : Answer) (after : List ℕ) → r ≡ answerOf (countedAfter 0 (lex text)) → after ≡ recorded table (lex text)
+    pub tokens-by : leb (length text) maxText ≡ true → (r : Answer) (after : List ℕ) → r ≡ answerOf (countedAfter 0 (lex text))
+        → after ≡ recorded table (lex text)
         → (r ≡ tokensAnswer text table) × (after ≡ tokensTable text table)
     unfolding tokensAnswer tokensTable
     tokens-by fits r after e s = (rw (serves, fits) e, rw (serves, fits) s)

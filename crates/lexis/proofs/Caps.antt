@@ -35,7 +35,8 @@ unfolding valueFrom
 value-snoc v [] d = refl
 value-snoc v (x ∷ ds) d = value-snoc (v * 10 + (x - 48)) ds d
 
-pub value-more : (s : List ℕ) (from j v w : ℕ) → from + j < length s → v ≡ min (valueFrom 0 (take j (drop from s))) writtenEnd → w ≡ min (v * 10 + (getD s (from + j) 0 - 48)) writtenEnd → w ≡ min (valueFrom 0 (take (j + 1) (drop from s))) writtenEnd
+pub value-more : (s : List ℕ) (from j v w : ℕ) → from + j < length s → v ≡ min (valueFrom 0 (take j (drop from s))) writtenEnd
+    → w ≡ min (v * 10 + (getD s (from + j) 0 - 48)) writtenEnd → w ≡ min (valueFrom 0 (take (j + 1) (drop from s))) writtenEnd
 value-more s from j v w h e f =
     rw (take-more s from j h, value-snoc 0 (take j (drop from s)) (getD s (from + j) 0)) (omega arith)
 
@@ -50,7 +51,8 @@ push-append m [] es = refl
 push-append m (x ∷ ds) es = push-append (push m x) ds es
 
 -- a digit after a short mantissa that ends in no zero needs no cap
-pub push-fast : (m : Mantissa) (b d : ℕ) → (b ≡ 48 → ⊥) → m .zeros ≡ 0 → m .value < 10000000000000000 → d ≡ b - 48 → b < 256 → record { value = m .value * 10 + d; zeros = 0 } ≡ push m b
+pub push-fast : (m : Mantissa) (b d : ℕ) → (b ≡ 48 → ⊥) → m .zeros ≡ 0 → m .value < 10000000000000000 → d ≡ b - 48 → b < 256
+    → record { value = m .value * 10 + d; zeros = 0 } ≡ push m b
 unfolding push
 push-fast m b d n z h e l =
     let v : m .value * 10 + d ≡ min (min (m .value * 10 ^ (m .zeros + 1)) mantissaEnd + (b - 48)) mantissaEnd = rw z (omega arith) in
@@ -70,11 +72,14 @@ pub push-bounded : (m : Mantissa) (k d : ℕ) → Bounded k m → Bounded (k + 1
 unfolding push
 push-bounded m k d h =
     cond-bounded (k + 1) (eqb d 48) _ _
-    (cond-bounded (k + 1) (eqb (m .value) 0) _ _ (record { capped = h .capped; few = omega (arith, h .few) }) (record { capped = h .capped; few = omega (arith, h .few) }))
+    (cond-bounded (k + 1) (eqb (m .value) 0) _ _ (record { capped = h .capped; few = omega (arith, h .few) })
+    (record { capped = h .capped; few = omega (arith, h .few) }))
     (record { capped = omega arith; few = omega arith })
 
-pub push-more : (s : List ℕ) (from j : ℕ) (m a b : Mantissa) → from + j < length s → a ≡ pushAll m (take j (drop from s)) → b ≡ push a (getD s (from + j) 0) → b ≡ pushAll m (take (j + 1) (drop from s))
-push-more s from j m a b h e f = f ∙ ap (λ (x : Mantissa). push x (getD s (from + j) 0)) e ∙ sym (rw (take-more s from j h) (push-snoc m (take j (drop from s)) (getD s (from + j) 0)))
+pub push-more : (s : List ℕ) (from j : ℕ) (m a b : Mantissa) → from + j < length s → a ≡ pushAll m (take j (drop from s)) → b ≡ push a (getD s (from + j) 0)
+    → b ≡ pushAll m (take (j + 1) (drop from s))
+push-more s from j m a b h e f =
+    f ∙ ap (λ (x : Mantissa). push x (getD s (from + j) 0)) e ∙ sym (rw (take-more s from j h) (push-snoc m (take j (drop from s)) (getD s (from + j) 0)))
 
 pub all-bounded : (m : Mantissa) (k : ℕ) (ds : List ℕ) → Bounded k m → Bounded (k + length ds) (pushAll m ds)
 unfolding pushAll

@@ -40,11 +40,13 @@ module _ (text : List ℕ) (c : Cursor) where
   step-end h = rw (le-leb _ _ h)
 
   module _ (h : c .at < length text) (k : ℕ) (is : k ≡ classOf (getD text (c .at) 0)) where
-    pub step-spaces : (end : ℕ) → k ≡ 1 → end ≡ c .at + 1 + spanLen (passes Spaces) (drop (c .at + 1) text) → Gap (record { at = end; count = c .count }) ≡ stepAt text c
+    pub step-spaces : (end : ℕ) → k ≡ 1 → end ≡ c .at + 1 + spanLen (passes Spaces) (drop (c .at + 1) text)
+        → Gap (record { at = end; count = c .count }) ≡ stepAt text c
     unfolding stepAt
     step-spaces end e q = rw (lt-leb _ _ h, ← is, e, q)
 
-    pub step-comment : (end : ℕ) → k ≡ 5 → end ≡ c .at + 1 + spanLen (passes Comment) (drop (c .at + 1) text) → Gap (record { at = end; count = c .count }) ≡ stepAt text c
+    pub step-comment : (end : ℕ) → k ≡ 5 → end ≡ c .at + 1 + spanLen (passes Comment) (drop (c .at + 1) text)
+        → Gap (record { at = end; count = c .count }) ≡ stepAt text c
     unfolding stepAt
     step-comment end e q = rw (lt-leb _ _ h, ← is, e, q)
 
@@ -59,7 +61,8 @@ module _ (text : List ℕ) (c : Cursor) where
       pub step-many : (k n : ℕ) → l ≡ L.Token k n → ltb (c .count) maxTokens ≡ false → Fault 8 (c .at) ≡ stepAt text c
       step-many k n e t = rw (step-here, e, t)
 
-      pub step-next : (k n : ℕ) → l ≡ L.Token k n → ltb (c .count) maxTokens ≡ true → Next (record { kind = k; start = c .at; end = c .at + n }) (record { at = c .at + n; count = c .count + 1 }) ≡ stepAt text c
+      pub step-next : (k n : ℕ) → l ≡ L.Token k n → ltb (c .count) maxTokens ≡ true
+          → Next (record { kind = k; start = c .at; end = c .at + n }) (record { at = c .at + n; count = c .count + 1 }) ≡ stepAt text c
       step-next k n e t = rw (step-here, e, t)
 
   pub token-in : (l : Lexeme) (k n : ℕ) → c .at < length text → l ≡ lexeme (drop (c .at) text) → l ≡ L.Token k n → c .at + n ≤ length text
@@ -109,7 +112,13 @@ token-says text c start k n h l e z kind true t =
     let fits : start + n ≤ length text = omega (arith, z .1, length-drop start text) in
     record {
       bytes = take n (drop start text);
-      lexes = e ∙ ap (λ (b : Bool). cond b (prepend (record { kind = k; start = start; bytes = take n (drop start text) }) (lexFrom 0 (suc (c .count)) (start + n) (drop n (drop start text)))) (refused 8 start)) t
+      lexes =
+          e
+          ∙ ap
+          (λ (b : Bool). cond b
+          (prepend (record { kind = k; start = start; bytes = take n (drop start text) }) (lexFrom 0 (suc (c .count)) (start + n) (drop n (drop start text))))
+          (refused 8 start))
+          t
           ∙ rw (drop-drop n start text, add-one);
       ends = ap (λ (m : ℕ). start + m) (length-take-le n (drop start text) (z .1));
       spelt = let m : n ≡ (start + n) - start = omega arith in ap (λ (i : ℕ). take i (drop start text)) m;
@@ -121,8 +130,15 @@ token-says text c start k n h l e z kind true t =
       room = ltb-true (c .count) maxTokens t;
       counts = refl;
     }
-token-says text c start k n h l e z kind false t =
-    (e ∙ ap (λ (b : Bool). cond b (prepend (record { kind = k; start = start; bytes = take n (drop start text) }) (lexFrom 0 (suc (c .count)) (start + n) (drop n (drop start text)))) (refused 8 start)) t, l)
+token-says text c start k n h l e z kind false t = (
+  e
+      ∙ ap
+      (λ (b : Bool). cond b
+      (prepend (record { kind = k; start = start; bytes = take n (drop start text) }) (lexFrom 0 (suc (c .count)) (start + n) (drop n (drop start text))))
+      (refused 8 start))
+      t,
+  l,
+)
 
 lexeme-says : (text : List ℕ) (c : Cursor) (start : ℕ) (l : Lexeme) → c .at ≤ start → start ≤ length text
     → lexHere text c ≡ after l (c .count) start (drop start text) → Sized (length (drop start text)) l → Told l → Says text c (stepTo l start (c .count))
@@ -131,7 +147,9 @@ lexeme-says text c start (L.Token k n) h l e z t = token-says text c start k n h
 
 module _ (text : List ℕ) (c : Cursor) where
   gap-says : (run : Run) → c .at < length text
-      → ((e : ℕ) → e ≡ c .at + 1 + spanLen (passes run) (drop (c .at + 1) text) → lexFrom 0 (c .count) (c .at) (drop (c .at) text) ≡ lexFrom 0 (c .count) e (drop e text))
+      →
+      ((e : ℕ) → e ≡ c .at + 1 + spanLen (passes run) (drop (c .at + 1) text)
+      → lexFrom 0 (c .count) (c .at) (drop (c .at) text) ≡ lexFrom 0 (c .count) e (drop e text))
       → Says text c (gapTo run text c)
   gap-says run h p = record {
     lexes = p (c .at + 1 + spanLen (passes run) (drop (c .at + 1) text)) refl;
@@ -146,13 +164,16 @@ module _ (text : List ℕ) (c : Cursor) where
       let none : c .at + gapFrom false (drop (c .at) text) ≡ c .at = gap-stop text (c .at) false h refl n5 n1 in
       let bare : gapLen (drop (c .at) text) ≡ 0 = omega arith in
       let some : 0 < length (drop (c .at) text) = omega (arith, length-drop (c .at) text) in
-      lexeme-says text c (c .at) (lexeme (drop (c .at) text)) (le-refl (c .at)) (omega arith) (lex-token (c .count) (c .at) (drop (c .at) text) some bare) (sized (drop (c .at) text)) (told (drop (c .at) text))
+      lexeme-says text c (c .at) (lexeme (drop (c .at) text)) (le-refl (c .at)) (omega arith) (lex-token (c .count) (c .at) (drop (c .at) text) some bare)
+      (sized (drop (c .at) text)) (told (drop (c .at) text))
 
   pick-says : (a b d : Bool) → leb (length text) (c .at) ≡ a → eqb (classOf (getD text (c .at) 0)) 1 ≡ b → eqb (classOf (getD text (c .at) 0)) 5 ≡ d
       → Says text c (cond a End (cond b (gapTo Spaces text c) (cond d (gapTo Comment text c) (stepTo (lexeme (drop (c .at) text)) (c .at) (c .count)))))
   pick-says true b d e f g = ap (lexFrom 0 (c .count) (c .at)) (drop-of-length-le text (leb-true (length text) (c .at) e)) ∙ lex-nil 0 (c .count) (c .at)
-  pick-says false true d e f g = let h = leb-false (length text) (c .at) e in gap-says Spaces h (λ e q. pass-spaces text (c .at) (c .count) e h (eqb-true _ 1 f) q)
-  pick-says false false true e f g = let h = leb-false (length text) (c .at) e in gap-says Comment h (λ e q. pass-comment text (c .at) (c .count) e h (eqb-true _ 5 g) q)
+  pick-says false true d e f g =
+      let h = leb-false (length text) (c .at) e in gap-says Spaces h (λ e q. pass-spaces text (c .at) (c .count) e h (eqb-true _ 1 f) q)
+  pick-says false false true e f g =
+      let h = leb-false (length text) (c .at) e in gap-says Comment h (λ e q. pass-comment text (c .at) (c .count) e h (eqb-true _ 5 g) q)
   pick-says false false false e f g = token-step-says (leb-false (length text) (c .at) e) (eqb-false _ 1 f) (eqb-false _ 5 g)
 
   pub step-says : Says text c (stepAt text c)

@@ -32,7 +32,8 @@ module _ (s : List ℕ) (at : ℕ) (p : Parts) where
   written-none e = rw (eq-eqb _ 0 e)
 
   module _ (start g end r : ℕ) (sign : g ≡ signLen (drop (start + 1) s)) (run : end ≡ start + (1 + g) + spanLen isDigit (drop (start + (1 + g)) s)) where
-    pub written-some : (p .exp ≡ 0 → ⊥) → start ≡ at + (p .whole + p .frac) → r ≡ min (valueFrom 0 (take (end - (start + (1 + g))) (drop (start + (1 + g)) s))) writtenEnd → r ≡ min (writtenOf (drop at s) p) writtenEnd
+    pub written-some : (p .exp ≡ 0 → ⊥) → start ≡ at + (p .whole + p .frac)
+        → r ≡ min (valueFrom 0 (take (end - (start + (1 + g))) (drop (start + (1 + g)) s))) writtenEnd → r ≡ min (writtenOf (drop at s) p) writtenEnd
     unfolding writtenOf
     written-some n e v =
         let len : digits (drop (start + (1 + g)) s) ≡ end - (start + (1 + g)) = omega arith in
@@ -48,12 +49,15 @@ module _ (s : List ℕ) (at : ℕ) (p : Parts) where
       let z : pred (p .frac) ≡ 0 = omega arith in
       q ∙ rw (z, append-nil (take (p .whole) (drop at s)))
 
-  pub with-fraction : (a b : Mantissa) → a ≡ pushAll noDigits (take (p .whole) (drop at s)) → b ≡ pushAll a (take (p .frac - 1) (drop (at + (p .whole + 1)) s)) → b ≡ pushAll noDigits (digitsOf (drop at s) p)
+  pub with-fraction : (a b : Mantissa) → a ≡ pushAll noDigits (take (p .whole) (drop at s))
+      → b ≡ pushAll a (take (p .frac - 1) (drop (at + (p .whole + 1)) s)) → b ≡ pushAll noDigits (digitsOf (drop at s) p)
   with-fraction a b e q =
       let z : pred (p .frac) ≡ p .frac - 1 = omega arith in
-      q ∙ rw (e, z, drop-drop (p .whole + 1) at s) (sym (push-append noDigits (take (p .whole) (drop at s)) (take (p .frac - 1) (drop (at + (p .whole + 1)) s))))
+      q
+      ∙ rw (e, z, drop-drop (p .whole + 1) at s) (sym (push-append noDigits (take (p .whole) (drop at s)) (take (p .frac - 1) (drop (at + (p .whole + 1)) s))))
 
-  pub from-in : (g : ℕ) → (p .exp ≡ 0 → ⊥) → at + (p .whole + p .frac + p .exp) ≤ length s → g ≡ signLen (drop (at + (p .whole + p .frac) + 1) s) → at + (p .whole + p .frac) + (1 + g) ≤ length s
+  pub from-in : (g : ℕ) → (p .exp ≡ 0 → ⊥) → at + (p .whole + p .frac + p .exp) ≤ length s → g ≡ signLen (drop (at + (p .whole + p .frac) + 1) s)
+      → at + (p .whole + p .frac) + (1 + g) ≤ length s
   from-in g n h e = sign-in (at + (p .whole + p .frac)) g e (omega arith)
 
   pub digits-in : (g end : ℕ) → (p .exp ≡ 0 → ⊥) → at + (p .whole + p .frac + p .exp) ≤ length s → g ≡ signLen (drop (at + (p .whole + p .frac) + 1) s)

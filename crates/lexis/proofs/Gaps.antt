@@ -32,7 +32,8 @@ comment-first [] = refl
 comment-first (x ∷ s) = go (eqb x 10) refl (comment-first s)
   where
     go : (b : Bool) → eqb x 10 ≡ b → gapFrom true s ≡ spanLen (passes Comment) s + gapFrom false (drop (spanLen (passes Comment) s) s)
-        → suc (gapFrom (not b) s) ≡ cond (not b) (suc (spanLen (passes Comment) s)) 0 + gapFrom false (drop (cond (not b) (suc (spanLen (passes Comment) s)) 0) (x ∷ s))
+        → suc (gapFrom (not b) s) ≡ cond (not b) (suc (spanLen (passes Comment) s)) 0 + gapFrom false
+        (drop (cond (not b) (suc (spanLen (passes Comment) s)) 0) (x ∷ s))
     go true e r = rw (eqb-true x 10 e) (omega arith)
     go false e r = omega arith
 
@@ -44,14 +45,20 @@ module _ (s : List ℕ) (at n : ℕ) where
       after : (i : ℕ) → lexFrom 0 n i (drop i s) ≡ lexFrom 0 n (i + gapLen (drop i s)) (drop (i + gapLen (drop i s)) s)
       after i = lex-gap n i (drop i s) ∙ ap (lexFrom 0 n (i + gapLen (drop i s))) (drop-drop (gapLen (drop i s)) i s)
 
-  pub pass-spaces : (e : ℕ) → at < length s → classOf (getD s at 0) ≡ 1 → e ≡ at + 1 + spanLen (passes Spaces) (drop (at + 1) s) → lexFrom 0 n at (drop at s) ≡ lexFrom 0 n e (drop e s)
+  pub pass-spaces : (e : ℕ) → at < length s → classOf (getD s at 0) ≡ 1 → e ≡ at + 1 + spanLen (passes Spaces) (drop (at + 1) s)
+      → lexFrom 0 n at (drop at s) ≡ lexFrom 0 n e (drop e s)
   pass-spaces e h k q = same-gap e
       (gap-space s at false h refl k
-      ∙ ap (λ (g : ℕ). at + 1 + g) (spaces-first (drop (at + 1) s) ∙ ap (λ (l : List ℕ). spanLen (passes Spaces) (drop (at + 1) s) + gapFrom false l) (drop-drop (spanLen (passes Spaces) (drop (at + 1) s)) (at + 1) s))
+      ∙ ap (λ (g : ℕ). at + 1 + g)
+      (spaces-first (drop (at + 1) s)
+      ∙ ap (λ (l : List ℕ). spanLen (passes Spaces) (drop (at + 1) s) + gapFrom false l) (drop-drop (spanLen (passes Spaces) (drop (at + 1) s)) (at + 1) s))
       ∙ rw q (omega arith))
 
-  pub pass-comment : (e : ℕ) → at < length s → classOf (getD s at 0) ≡ 5 → e ≡ at + 1 + spanLen (passes Comment) (drop (at + 1) s) → lexFrom 0 n at (drop at s) ≡ lexFrom 0 n e (drop e s)
+  pub pass-comment : (e : ℕ) → at < length s → classOf (getD s at 0) ≡ 5 → e ≡ at + 1 + spanLen (passes Comment) (drop (at + 1) s)
+      → lexFrom 0 n at (drop at s) ≡ lexFrom 0 n e (drop e s)
   pass-comment e h k q = same-gap e
       (gap-sign s at false h refl k
-      ∙ ap (λ (g : ℕ). at + 1 + g) (comment-first (drop (at + 1) s) ∙ ap (λ (l : List ℕ). spanLen (passes Comment) (drop (at + 1) s) + gapFrom false l) (drop-drop (spanLen (passes Comment) (drop (at + 1) s)) (at + 1) s))
+      ∙ ap (λ (g : ℕ). at + 1 + g)
+      (comment-first (drop (at + 1) s)
+      ∙ ap (λ (l : List ℕ). spanLen (passes Comment) (drop (at + 1) s) + gapFrom false l) (drop-drop (spanLen (passes Comment) (drop (at + 1) s)) (at + 1) s))
       ∙ rw q (omega arith))

@@ -35,7 +35,8 @@ records-length (t ∷ ts) = omega (arith, records-length ts)
 
 -- the records of t and ts, that of t stored first
 records-more : (area : List ℕ) (n : ℕ) (t : Token) (ts : List Token)
-    → sets (recordAt area (n * recordWords) (t .kind) (t .start) (t .start + length (t .bytes))) ((n + 1) * recordWords) (records ts) ≡ sets area (n * recordWords) (records (t ∷ ts))
+    → sets (recordAt area (n * recordWords) (t .kind) (t .start) (t .start + length (t .bytes))) ((n + 1) * recordWords) (records ts) ≡ sets area
+    (n * recordWords) (records (t ∷ ts))
 unfolding records
 records-more area n t ts =
     let f : (n + 1) * recordWords ≡ suc (suc (suc (n * recordWords))) = omega arith in
@@ -51,7 +52,8 @@ laid-is true n area (t ∷ ts) h =
     let one : firstMark + (n + 1) ≡ suc (firstMark + n) = omega arith in
     let front = recordAt area (n * recordWords) (t .kind) (t .start) (t .start + length (t .bytes)) in
     laid-is true (n + 1) (layOne true n area t) ts (omega arith)
-    ∙ ap (λ (y : List ℕ). sets y (firstMark + (n + 1)) (symbols ts)) (sets-set (records ts) front ((n + 1) * recordWords) (firstMark + n) (symOf t) (omega (arith, records-length ts)))
+    ∙ ap (λ (y : List ℕ). sets y (firstMark + (n + 1)) (symbols ts))
+    (sets-set (records ts) front ((n + 1) * recordWords) (firstMark + n) (symOf t) (omega (arith, records-length ts)))
     ∙ ap (λ (y : List ℕ). sets (set y (firstMark + n) (symOf t)) (firstMark + (n + 1)) (symbols ts)) (records-more area n t ts)
     ∙ ap (λ (i : ℕ). sets (set (sets area (n * recordWords) (records (t ∷ ts))) (firstMark + n) (symOf t)) i (symbols ts)) one
 

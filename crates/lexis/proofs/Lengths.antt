@@ -49,7 +49,8 @@ number-sized x s e =
     let d : 1 ≤ digits (x ∷ s) = span-pos isDigit x s (rw e) in
     let pos : 1 ≤ n = omega (arith, whole-le (x ∷ s)) in
     by-cases (suc (length s)) (sticks (getD (x ∷ s) n 0)) _ _ (λ _. tt)
-    (λ _. by-cases (suc (length s)) (leb n maxNumber) _ _ (λ _. by-cases (suc (length s)) (inRange (take n (x ∷ s)) (partsOf (take n (x ∷ s)))) _ _ (λ _. (pos, parts-le (x ∷ s))) (λ _. tt)) (λ _. tt))
+    (λ _. by-cases (suc (length s)) (leb n maxNumber) _ _
+    (λ _. by-cases (suc (length s)) (inRange (take n (x ∷ s)) (partsOf (take n (x ∷ s)))) _ _ (λ _. (pos, parts-le (x ∷ s))) (λ _. tt)) (λ _. tt))
 
 -- a byte that is not 0 stands within the text
 inside : (s : List ℕ) (n : ℕ) → (getD s n 0 ≡ 0 → ⊥) → n < length s

@@ -17,7 +17,8 @@ use Rattle.lexis.proofs.Positions.{front}
 use Rattle.lexis.proofs.Marks.{mark-alone, mark-equal}
 
 module _ (s : List ℕ) (at : ℕ) (h : at < length s) (k : ℕ) (is : k ≡ classOf (getD s at 0)) where
-  here : lexeme (drop at s) ≡ cond (eqb k 2) (numberLexeme (drop at s)) (cond (eqb k 3) (wordLexeme (drop at s)) (cond (eqb k 4) (stringLexeme (getD s at 0) (drop (at + 1) s)) (markLexeme (getD s at 0) (getD s (at + 1) 0))))
+  here : lexeme (drop at s) ≡ cond (eqb k 2) (numberLexeme (drop at s))
+      (cond (eqb k 3) (wordLexeme (drop at s)) (cond (eqb k 4) (stringLexeme (getD s at 0) (drop (at + 1) s)) (markLexeme (getD s at 0) (getD s (at + 1) 0))))
   unfolding lexeme
   here = rw (is, add-one, drop-cons s at 0 h, front s (suc at))
 

@@ -61,7 +61,8 @@ gap-first g n at x s e = rw (e, lexFrom)
 -- a gap is passed over
 gap-step : (g n at x : ℕ) (s : List ℕ) → gapLen (x ∷ s) ≡ g → g ≤ suc (length s) → lexFrom 0 n at (x ∷ s) ≡ lexFrom 0 n (at + g) (drop g (x ∷ s))
 gap-step zero n at x s e h = ap (λ (m : ℕ). lexFrom 0 n m (x ∷ s)) (sym (add-zero at))
-gap-step (suc g) n at x s e h = gap-first g n at x s e ∙ lex-skip g n (suc at) s (le-of-suc-le-suc h) ∙ ap (λ (m : ℕ). lexFrom 0 n m (drop g s)) (suc-add at g ∙ sym (add-suc at g))
+gap-step (suc g) n at x s e h =
+    gap-first g n at x s e ∙ lex-skip g n (suc at) s (le-of-suc-le-suc h) ∙ ap (λ (m : ℕ). lexFrom 0 n m (drop g s)) (suc-add at g ∙ sym (add-suc at g))
 
 pub lex-gap : (n at : ℕ) (s : List ℕ) → lexFrom 0 n at s ≡ lexFrom 0 n (at + gapLen s) (drop (gapLen s) s)
 unfolding gapFrom

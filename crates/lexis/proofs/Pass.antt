@@ -70,7 +70,8 @@ written-good : (m : Bool) (text : List ℕ) (l : Lexed) (before after : List ℕ
 written-good m text (accepted ts) before after q h e = e ∙ laid-is m 0 before ts (omega (arith, few text ts q))
 written-good m text (refused c p) before after q h e = absurd (false≢true h)
 
-written-fault : (m : Bool) (l : Lexed) (before after : List ℕ) (k q : ℕ) → countedAfter 0 l ≡ Fault k q → length after ≡ length before → Recorded m l before after
+written-fault : (m : Bool) (l : Lexed) (before after : List ℕ) (k q : ℕ) → countedAfter 0 l ≡ Fault k q → length after ≡ length before
+    → Recorded m l before after
 written-fault m (accepted ts) before after k q e h = let z : _≡_ {A = ℕ} 0 1 = cc in absurd (omega arith)
 written-fault m (refused c p) before after k q e h = h
 
@@ -119,7 +120,9 @@ module _ (marked : Bool) (text table₀ : List ℕ) (c : Cursor) (table : List �
     slow = omega (arith, s .counts, s .moves, inv .slow);
     long = inv .long;
     counted = inv .counted ∙ ap (countedAfter (c .count)) (s .lexes) ∙ ap (λ (n : ℕ). countedAfter n (lexHere text d)) (sym (s .counts));
-    wrote = λ h. inv .wrote (ap isAccepted (s .lexes) ∙ h) ∙ ap (laidFrom marked (c .count) table) (s .lexes) ∙ ap (λ (n : ℕ). laidFrom marked n table (lexHere text d)) (sym (s .counts));
+    wrote =
+        λ h. inv .wrote (ap isAccepted (s .lexes) ∙ h) ∙ ap (laidFrom marked (c .count) table) (s .lexes)
+        ∙ ap (λ (n : ℕ). laidFrom marked n table (lexHere text d)) (sym (s .counts));
   }
 
   pub lexing-end : (n m : ℕ) → n ≡ c .count → lexHere text c ≡ accepted [] → length table₀ ≡ m → areaWords marked (length text) ≤ m
@@ -128,8 +131,14 @@ module _ (marked : Bool) (text table₀ : List ℕ) (c : Cursor) (table : List �
   lexing-end n m e l f a =
       let h = area-records marked (length text) m a in
       let counts : countedAfter 0 (lex text) ≡ Tokens n = inv .counted ∙ ap (countedAfter (c .count)) l ∙ ap Tokens (add-zero (c .count) ∙ sym e) in
-      let good : isAccepted (lexHere text c) ≡ true = ap isAccepted l in
-      (sym counts, (written-good marked text (lex text) table₀ table refl (counted-accepted n (lex text) counts) (sym (inv .wrote good ∙ ap (laidFrom marked (c .count) table) l)), (omega (arith, inv .few), omega (arith, inv .few, inv .slow, inv .within))))
+      let good : isAccepted (lexHere text c) ≡ true = ap isAccepted l in (
+        sym counts,
+        (
+          written-good marked text (lex text) table₀ table refl (counted-accepted n (lex text) counts)
+              (sym (inv .wrote good ∙ ap (laidFrom marked (c .count) table) l)),
+          (omega (arith, inv .few), omega (arith, inv .few, inv .slow, inv .within)),
+        ),
+      )
 
   pub lexing-fault : (code p k q m : ℕ) → k ≡ code → q ≡ p → lexHere text c ≡ refused code p
       → (Fault k q ≡ countedAfter 0 (lex text)) × (Recorded marked (lex text) table₀ table × Room (Fault k q) m)

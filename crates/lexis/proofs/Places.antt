@@ -49,7 +49,8 @@ cond-fine text from n false x y p q = q
 
 -- a token of length len at `at`, where no gap stands, and what follows it
 prepend-fine : (text : List ℕ) (at n k len : ℕ) → gapLen (drop at text) ≡ 0 → lexeme (drop at text) ≡ L.Token k len → 1 ≤ len
-    → at + len ≤ length text → IsKind k → (l : Lexed) → Fine text (at + len) (suc n) l → Fine text at n (prepend (record { kind = k; start = at; bytes = take len (drop at text) }) l)
+    → at + len ≤ length text → IsKind k → (l : Lexed) → Fine text (at + len) (suc n) l
+    → Fine text at n (prepend (record { kind = k; start = at; bytes = take len (drop at text) }) l)
 prepend-fine text at n k len no-gap is some fits kind (accepted ts) f =
     let l : length (take len (drop at text)) ≡ len = length-take-le len (drop at text) (omega (arith, length-drop at text)) in
     let rest : Placed text (at + length (take len (drop at text))) ts = subst (λ (m : ℕ). Placed text (at + m) ts) (sym l) (f .0) in
@@ -69,7 +70,8 @@ inside : (text : List ℕ) (at x : ℕ) (s : List ℕ) → drop at text ≡ x �
 inside text at x s e = omega (arith, length-drop at text, ap length e)
 
 admit-fine : (text : List ℕ) (at n x : ℕ) (s : List ℕ) (l : Lexeme) (rest : ℕ → Lexed) → drop at text ≡ x ∷ s → gapLen (x ∷ s) ≡ 0
-    → lexeme (x ∷ s) ≡ l → Sized (suc (length s)) l → Told l → ((len : ℕ) → 1 ≤ len → len ≤ suc (length s) → n < maxTokens → Fine text (at + len) (suc n) (rest len))
+    → lexeme (x ∷ s) ≡ l → Sized (suc (length s)) l → Told l
+    → ((len : ℕ) → 1 ≤ len → len ≤ suc (length s) → n < maxTokens → Fine text (at + len) (suc n) (rest len))
     → Fine text at n (admit l n at (x ∷ s) rest)
 unfolding admit
 admit-fine text at n x s (L.Fault c) rest e g is z t r = (omega arith, omega (arith, inside text at x s e))

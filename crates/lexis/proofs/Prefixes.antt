@@ -63,8 +63,11 @@ exp-take (suc zero) (y ∷ s) h = exp-short (eqb y 101 || eqb y 69) (signLen s) 
 exp-take (suc (suc m)) (y ∷ []) h = refl
 exp-take (suc (suc m)) (y ∷ (z ∷ s)) h =
     let g = signLen (z ∷ s) in
-    exp-cons (eqb y 101 || eqb y 69) g (digits (drop (1 + g) (y ∷ (z ∷ s)))) (digits (drop (1 + g) (y ∷ (z ∷ take m s)))) (suc m) (omega (arith, sign-small (z ∷ s)))
-    (ap digits (drop-more g y (z ∷ take m s) ∙ drop-of-take g (suc m) (z ∷ s)) ∙ span-take isDigit (suc m - g) (drop g (z ∷ s)) ∙ ap (λ (l : List ℕ). min (suc m - g) (digits l)) (sym (drop-more g y (z ∷ s)))) h
+    exp-cons (eqb y 101 || eqb y 69) g (digits (drop (1 + g) (y ∷ (z ∷ s)))) (digits (drop (1 + g) (y ∷ (z ∷ take m s)))) (suc m)
+    (omega (arith, sign-small (z ∷ s)))
+    (ap digits (drop-more g y (z ∷ take m s) ∙ drop-of-take g (suc m) (z ∷ s)) ∙ span-take isDigit (suc m - g) (drop g (z ∷ s))
+    ∙ ap (λ (l : List ℕ). min (suc m - g) (digits l)) (sym (drop-more g y (z ∷ s))))
+    h
 
 -- the parts of a number are found in any part of the text that holds the number
 pub parts-take : (s : List ℕ) (m : ℕ) → partsLen (partsOf s) ≤ m → partsOf (take m s) ≡ partsOf s
@@ -91,6 +94,7 @@ module _ (s : List ℕ) (at : ℕ) (p : Parts) (is : p ≡ partsOf (drop at s)) 
   pub parts-own : p ≡ partsOf (take (at + partsLen p - at) (drop at s))
   parts-own = rw len own
 
-  pub range-own : (r b : Bool) → r ≡ inRange (take (at + partsLen p - at) (drop at s)) p → r ≡ b → inRange (take (partsLen p) (drop at s)) (partsOf (take (partsLen p) (drop at s))) ≡ b
+  pub range-own : (r b : Bool) → r ≡ inRange (take (at + partsLen p - at) (drop at s)) p → r ≡ b
+      → inRange (take (partsLen p) (drop at s)) (partsOf (take (partsLen p) (drop at s))) ≡ b
   range-own r b e f =
       ap (inRange (take (partsLen p) (drop at s))) (sym own) ∙ ap (λ (k : ℕ). inRange (take k (drop at s)) p) (sym len) ∙ sym e ∙ f

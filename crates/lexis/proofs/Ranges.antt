@@ -1,5 +1,5 @@
 -- The reduction of a number, by the cases that the code meets: first that a number's digits are digits, then each answer, then that a
--- short number without an exponent is always in range.
+-- short number is always in range.
 use mathlib.Core.Path.{_≡_, refl, sym, ap, _∙_, subst}
 use mathlib.Core.Bool.{Bool, true, false, cond, _&&_, _||_, false≢true}
 use mathlib.Core.List.{List, [], _∷_, _++_}
@@ -8,6 +8,7 @@ use Prim.Native.Nat.{ℕ, zero, suc, pred, _+_, _-_, _*_, _%_, _^_, _≤_, _<_, 
 use native.Mathlib.Nat.{mul-le-mul-left, one-le-pow, add-zero, pow-suc, pow-le-pow-right}
 use native.Mathlib.Numerals.{add-one}
 use native.Mathlib.Omega.{arith}
+use native.Mathlib.Decide.{decLt}
 use lib.Dec.{eqb, leb}
 use lib.ListN.{length, take, drop, getD, length-append, length-take}
 use lib.Seq.{drop-drop}
@@ -15,7 +16,9 @@ use lib.IntN.{ℤ, pos}
 use borrow.Author.Tests.{eq-eqb, ne-eqb, eqb-true, eqb-false, le-leb, lt-leb, lt-ltb, le-ltb, leb-true}
 use Rattle.lexis.specs.Sizes.{maxNumber, maxWritten, writtenEnd, mantissaDigits, mantissaEnd}
 use Rattle.lexis.specs.Bytes.{among, within, classOf, isDigit, spanLen}
-use Rattle.lexis.specs.Number.{exponentOf, isNear, digits, led, fracLen, partsOf, partsLen, valueFrom, digitsOf, writtenOf, minusOf, strip, reducedOf, isSmall, inRange, reductionOf}
+use Rattle.lexis.specs.Number.{exponentOf, isNear, digits, led, fracLen, partsOf, partsLen, valueFrom, digitsOf, writtenOf, minusOf, strip, reducedOf}
+use Rattle.lexis.specs.Number.{isSmall, inRange, reductionOf}
+use Rattle.lexis.specs.Shapes.{smallWritten, isShort}
 use Rattle.lexis.specs.Push.{noDigits, pushAll}
 use Rattle.lexis.specs.declared.number.Parts.{Parts}
 use Rattle.lexis.specs.declared.mantissa.Mantissa.{Mantissa}
@@ -57,7 +60,8 @@ digit-range x t =
     let b = both-true (leb 48 x) (leb x 57) w in
     (leb-true 48 x (b .0), leb-true x 57 (b .1))
 
-span-digits-cons : (x : ℕ) (s : List ℕ) (b : Bool) → isDigit x ≡ b → Digits (take (spanLen isDigit s) s) → Digits (take (cond b (suc (spanLen isDigit s)) 0) (x ∷ s))
+span-digits-cons : (x : ℕ) (s : List ℕ) (b : Bool) → isDigit x ≡ b → Digits (take (spanLen isDigit s) s)
+    → Digits (take (cond b (suc (spanLen isDigit s)) 0) (x ∷ s))
 span-digits-cons x s true t h = let r = digit-range x t in (r .0, r .1, h)
 span-digits-cons x s false t h = tt
 
@@ -95,7 +99,8 @@ zeros-small s p m e h =
     let ds = digitsOf s p in
     let r = all-bounded noDigits 0 ds (record { capped = zero-le; few = zero-le }) in
     let f = take (pred (p .frac)) (drop (p .whole + 1) s) in
-    let l : length ds ≤ maxNumber = omega (arith, length-append (take (p .whole) s) f, length-take (p .whole) s, length-take (pred (p .frac)) (drop (p .whole + 1) s)) in
+    let l : length ds ≤ maxNumber = omega
+    (arith, length-append (take (p .whole) s) f, length-take (p .whole) s, length-take (pred (p .frac)) (drop (p .whole + 1) s)) in
     rw e (omega (arith, r .few))
 
 module _ (s : List ℕ) (p : Parts) (is : p ≡ partsOf s) (m : Mantissa) (read : m ≡ pushAll noDigits (digitsOf s p)) where
@@ -118,7 +123,8 @@ module _ (s : List ℕ) (p : Parts) (is : p ≡ partsOf s) (m : Mantissa) (read 
   unfolding reducedOf
   reduced-zero e = rw (value-zero e)
 
-  reduced-some : (m .value ≡ 0 → ⊥) → reducedOf s p ≡ record { mantissa = holds .mantissa; exponent = exponentOf (minusOf s p) (writtenOf s p) (pred (p .frac)) (m .zeros) }
+  reduced-some : (m .value ≡ 0 → ⊥)
+      → reducedOf s p ≡ record { mantissa = holds .mantissa; exponent = exponentOf (minusOf s p) (writtenOf s p) (pred (p .frac)) (m .zeros) }
   unfolding reducedOf
   reduced-some n =
       let st : strip (length (digitsOf s p)) (valueFrom 0 (digitsOf s p)) ≡ record { mantissa = holds .mantissa; zeros = m .zeros } =
@@ -176,7 +182,7 @@ in-range-no s p r q f = go (inRange s p) (sym f ∙ q)
     go false z = refl
     go true z = let z′ : _≡_ {A = ℕ} 0 1 = cc in absurd (omega arith)
 
--- ---- a short number without an exponent
+-- ---- a short number
 
 value-below : (v k : ℕ) (ds : List ℕ) → Digits ds → v < 10 ^ k → valueFrom v ds < 10 ^ (k + length ds)
 unfolding valueFrom
@@ -187,43 +193,80 @@ value-below v k (d ∷ ds) t h =
     let e : k + suc (length ds) ≡ k + 1 + length ds = omega arith in
     rw e (value-below (v * 10 + (d - 48)) (k + 1) ds (t .2) below)
 
-short-digits : (s : List ℕ) (p : Parts) → p ≡ partsOf s → length s ≤ mantissaDigits → length (digitsOf s p) ≤ mantissaDigits
-short-digits s p is h =
-    let f = take (pred (p .frac)) (drop (p .whole + 1) s) in
-    let n : partsLen p ≤ length s = rw is (parts-le s) in
-    omega (arith, length-append (take (p .whole) s) f, length-take (p .whole) s, length-take (pred (p .frac)) (drop (p .whole + 1) s))
+-- the number that a short number's digits spell is small
+module _ (s : List ℕ) (p : Parts) (is : p ≡ partsOf s) (few : p .whole + p .frac ≤ mantissaDigits) where
+  short-digits : length (digitsOf s p) ≤ mantissaDigits
+  short-digits =
+      let f = take (pred (p .frac)) (drop (p .whole + 1) s) in
+      omega (arith, length-append (take (p .whole) s) f, length-take (p .whole) s, length-take (pred (p .frac)) (drop (p .whole + 1) s))
 
-short-written : (s : List ℕ) (p : Parts) → p .exp ≡ 0 → 0 ≡ min (writtenOf s p) writtenEnd
+  short-small : pushAll noDigits (digitsOf s p) .value < mantissaEnd
+  short-small =
+      let ds = digitsOf s p in
+      let hold = holds s p is (pushAll noDigits ds) refl in
+      let q : 1 ≤ 10 ^ pushAll noDigits ds .zeros = one-le-pow (pushAll noDigits ds .zeros) 10 (omega arith) in
+      let r : hold .mantissa * 1 ≤ hold .mantissa * 10 ^ pushAll noDigits ds .zeros = mul-le-mul-left (hold .mantissa) q in
+      let v : valueFrom 0 ds < 10 ^ (0 + length ds) = value-below 0 0 ds (rw is (digits-are s)) (omega arith) in
+      let few : 0 + length ds ≤ 18 = omega (arith, short-digits) in
+      let ten : 0 < 10 = omega arith in
+      let top : 10 ^ (0 + length ds) ≤ 10 ^ 18 = pow-le-pow-right ten few in
+      omega (arith, hold .value, hold .whole)
+
+  module _ (fits : partsLen p ≤ maxNumber) (small : writtenOf s p ≤ smallWritten) where
+    abbrev short-exponent : ℤ
+    short-exponent = exponentOf (minusOf s p) (writtenOf s p) (pred (p .frac)) (pushAll noDigits (digitsOf s p) .zeros)
+
+    -- and its exponent is near
+    short-near : isNear short-exponent ≡ true
+    short-near =
+        let z : pushAll noDigits (digitsOf s p) .zeros ≤ maxNumber = zeros-small s p (pushAll noDigits (digitsOf s p)) refl fits in
+        let up : cond (minusOf s p) 0 (writtenOf s p) ≤ smallWritten = cond-small (minusOf s p) 0 (writtenOf s p) smallWritten zero-le small in
+        let down : cond (minusOf s p) (writtenOf s p) 0 ≤ smallWritten = cond-small (minusOf s p) (writtenOf s p) 0 smallWritten small zero-le in
+        near-small (cond (minusOf s p) 0 (writtenOf s p) + pushAll noDigits (digitsOf s p) .zeros)
+        (cond (minusOf s p) (writtenOf s p) 0 + pred (p .frac)) (omega arith) (omega arith)
+
+    capped-written : writtenOf s p ≡ min (writtenOf s p) writtenEnd
+    capped-written = omega arith
+
+    -- so it is in range
+    range-short : true ≡ inRange s p
+    range-short = go (eqb (pushAll noDigits (digitsOf s p) .value) 0) refl
+      where
+        go : (b : Bool) → eqb (pushAll noDigits (digitsOf s p) .value) 0 ≡ b → true ≡ inRange s p
+        go true t =
+            in-range-yes s p (Number 0 (pos 0)) 0 (pos 0)
+            (number-zero s p is (pushAll noDigits (digitsOf s p)) refl (writtenOf s p) capped-written (omega arith) (eqb-true _ 0 t)) refl
+        go false t =
+            in-range-yes s p (Number (pushAll noDigits (digitsOf s p) .value) short-exponent) (pushAll noDigits (digitsOf s p) .value) short-exponent
+            (number-good s p is (pushAll noDigits (digitsOf s p)) refl (writtenOf s p) capped-written (omega arith) (eqb-false _ 0 t)
+            short-small short-exponent refl short-near) refl
+
+no-exponent : (s : List ℕ) (p : Parts) → p .exp ≡ 0 → writtenOf s p ≡ 0
 unfolding writtenOf
-short-written s p e = rw (eq-eqb _ 0 e)
+no-exponent s p e = rw (eq-eqb (p .exp) 0 e)
 
-short-small : (s : List ℕ) (p : Parts) → p ≡ partsOf s → length s ≤ mantissaDigits → pushAll noDigits (digitsOf s p) .value < mantissaEnd
-short-small s p is h =
-    let ds = digitsOf s p in
-    let hold = holds s p is (pushAll noDigits ds) refl in
-    let q : 1 ≤ 10 ^ pushAll noDigits ds .zeros = one-le-pow (pushAll noDigits ds .zeros) 10 (omega arith) in
-    let r : hold .mantissa * 1 ≤ hold .mantissa * 10 ^ pushAll noDigits ds .zeros = mul-le-mul-left (hold .mantissa) q in
-    let v : valueFrom 0 ds < 10 ^ (0 + length ds) = value-below 0 0 ds (rw is (digits-are s)) (omega arith) in
-    let few : 0 + length ds ≤ 18 = omega (arith, short-digits s p is h) in
-    let ten : 0 < 10 = omega arith in
-    let top : 10 ^ (0 + length ds) ≤ 10 ^ 18 = pow-le-pow-right ten few in
-    omega (arith, hold .value, hold .whole)
-
-abbrev short-exponent : List ℕ → Parts → ℤ
-short-exponent s p = exponentOf (minusOf s p) 0 (pred (p .frac)) (pushAll noDigits (digitsOf s p) .zeros)
-
-short-near : (s : List ℕ) (p : Parts) → p ≡ partsOf s → length s ≤ mantissaDigits → isNear (short-exponent s p) ≡ true
-short-near s p is h =
+-- and so is one of at most 18 bytes without an exponent
+pub range-plain : (s : List ℕ) (p : Parts) → p ≡ partsOf s → p .exp ≡ 0 → length s ≤ mantissaDigits → true ≡ inRange s p
+range-plain s p is none h =
     let n : partsLen p ≤ length s = rw is (parts-le s) in
-    let z : pushAll noDigits (digitsOf s p) .zeros ≤ maxNumber = zeros-small s p (pushAll noDigits (digitsOf s p)) refl (omega arith) in
-    let c : cond (minusOf s p) 0 0 ≤ 0 = cond-small (minusOf s p) 0 0 0 zero-le zero-le in
-    near-small (cond (minusOf s p) 0 0 + pushAll noDigits (digitsOf s p) .zeros) (cond (minusOf s p) 0 0 + pred (p .frac)) (omega arith) (omega arith)
+    range-short s p is (omega arith) (omega arith) (omega (arith, no-exponent s p none))
 
-pub range-short : (s : List ℕ) (p : Parts) → p ≡ partsOf s → p .exp ≡ 0 → length s ≤ mantissaDigits → true ≡ inRange s p
-range-short s p is none h = go (eqb (pushAll noDigits (digitsOf s p) .value) 0) refl
+-- ---- the test of a short number
+
+pub few-not : (s : List ℕ) (p : Parts) → mantissaDigits < p .whole + p .frac → false ≡ isShort s p
+unfolding isShort
+few-not s p h = rw (lt-leb (p .whole + p .frac) mantissaDigits h)
+
+pub few-then : (s : List ℕ) (p : Parts) (w : ℕ) → p .whole + p .frac ≤ mantissaDigits → w ≡ min (writtenOf s p) writtenEnd → leb w smallWritten ≡ isShort s p
+unfolding isShort
+few-then s p w h e = rw (le-leb (p .whole + p .frac) mantissaDigits h) (go (decLt smallWritten (writtenOf s p)))
   where
-    go : (b : Bool) → eqb (pushAll noDigits (digitsOf s p) .value) 0 ≡ b → true ≡ inRange s p
-    go true t = in-range-yes s p (Number 0 (pos 0)) 0 (pos 0) (number-zero s p is (pushAll noDigits (digitsOf s p)) refl 0 (short-written s p none) zero-le (eqb-true _ 0 t)) refl
-    go false t =
-        in-range-yes s p (Number (pushAll noDigits (digitsOf s p) .value) (short-exponent s p)) (pushAll noDigits (digitsOf s p) .value) (short-exponent s p)
-        (number-good s p is (pushAll noDigits (digitsOf s p)) refl 0 (short-written s p none) zero-le (eqb-false _ 0 t) (short-small s p is h) (short-exponent s p) refl (short-near s p is h)) refl
+    go : Dec (smallWritten < writtenOf s p) → leb w smallWritten ≡ leb (writtenOf s p) smallWritten
+    go (yes l) = lt-leb w smallWritten (omega arith) ∙ sym (lt-leb (writtenOf s p) smallWritten l)
+    go (no l) = le-leb w smallWritten (omega arith) ∙ sym (le-leb (writtenOf s p) smallWritten (omega arith))
+
+pub short-in-range : (s : List ℕ) (p : Parts) (b : Bool) → p ≡ partsOf s → partsLen p ≤ maxNumber → b ≡ isShort s p → b ≡ true → true ≡ inRange s p
+unfolding isShort
+short-in-range s p b is fits e t =
+    let two = both-true (leb (p .whole + p .frac) mantissaDigits) (leb (writtenOf s p) smallWritten) (sym e ∙ t) in
+    range-short s p is (leb-true _ mantissaDigits (two .0)) fits (leb-true _ smallWritten (two .1))

@@ -6,7 +6,8 @@ use mathlib.Core.List.{List, [], _∷_}
 use mathlib.Core.Logic.{_⊎_, ⊎-elim}
 use mathlib.Core.Logic._⊎_.{inl, inr}
 use Prim.Native.Nat.{ℕ, zero, suc, _+_, _-_, _*_, _/_, _%_, _^_, _≤_, _<_, min, zero-le}
-use native.Mathlib.Nat.{add-zero, zero-add, zero-mul, mul-one, mul-le-mul-right, mul-le-mul-left, one-le-pow, pow-suc, mul-assoc, le-of-suc-le-suc, not-suc-le-zero}
+use native.Mathlib.Nat.{add-zero, zero-add, zero-mul, mul-one, mul-le-mul-right, mul-le-mul-left, one-le-pow, pow-suc, mul-assoc, le-of-suc-le-suc}
+use native.Mathlib.Nat.{not-suc-le-zero}
 use native.Mathlib.Omega.{arith}
 use native.Mathlib.Decide.{decLt}
 use lib.Dec.{eqb}
@@ -56,7 +57,13 @@ module _ (v k d : ℕ) (m : Mantissa) (h : Held v k m) (lo : 48 ≤ d) (hi : d �
   push-still : d ≡ 48 → m .value ≡ 0 → Held (v * 10 + (d - 48)) (k + 1) m
   push-still e z =
       let n : v ≡ 0 = held-zero v k m h z in
-      record { mantissa = h .mantissa; value = h .value; whole = (let w : v * 10 + (d - 48) ≡ v = omega arith in w ∙ h .whole); tail = h .tail; few = omega (arith, h .few) }
+      record {
+        mantissa = h .mantissa;
+        value = h .value;
+        whole = (let w : v * 10 + (d - 48) ≡ v = omega arith in w ∙ h .whole);
+        tail = h .tail;
+        few = omega (arith, h .few);
+      }
 
   -- a zero after a mantissa
   push-zero : d ≡ 48 → (m .value ≡ 0 → ⊥) → Held (v * 10 + (d - 48)) (k + 1) (record { value = m .value; zeros = m .zeros + 1 })
@@ -69,11 +76,13 @@ module _ (v k d : ℕ) (m : Mantissa) (h : Held v k m) (lo : 48 ≤ d) (hi : d �
   }
 
   -- another digit
-  push-digit : (d ≡ 48 → ⊥) → Held (v * 10 + (d - 48)) (k + 1) (record { value = min (min (m .value * 10 ^ (m .zeros + 1)) mantissaEnd + (d - 48)) mantissaEnd; zeros = 0 })
+  push-digit : (d ≡ 48 → ⊥)
+      → Held (v * 10 + (d - 48)) (k + 1) (record { value = min (min (m .value * 10 ^ (m .zeros + 1)) mantissaEnd + (d - 48)) mantissaEnd; zeros = 0 })
   push-digit n =
       let p = h .mantissa in
       let t = 10 ^ (m .zeros + 1) in
-      let s : min (m .value * t) mantissaEnd ≡ min (p * t) mantissaEnd = ap (λ (q : ℕ). min (q * t) mantissaEnd) (h .value) ∙ min-scale p t mantissaEnd (one-le-pow (m .zeros + 1) 10 (omega arith)) in
+      let s : min (m .value * t) mantissaEnd ≡ min (p * t) mantissaEnd = ap (λ (q : ℕ). min (q * t) mantissaEnd) (h .value)
+      ∙ min-scale p t mantissaEnd (one-le-pow (m .zeros + 1) 10 (omega arith)) in
       record {
         mantissa = p * t + (d - 48);
         value = omega arith;
@@ -86,7 +95,10 @@ held-push : (v k d : ℕ) (m : Mantissa) → Held v k m → 48 ≤ d → d ≤ 5
 unfolding push
 held-push v k d m h lo hi = go (eqb d 48) (eqb (m .value) 0) refl refl
   where
-    go : (a b : Bool) → eqb d 48 ≡ a → eqb (m .value) 0 ≡ b → Held (v * 10 + (d - 48)) (k + 1) (cond a (cond b m (record { value = m .value; zeros = m .zeros + 1 })) (record { value = min (min (m .value * 10 ^ (m .zeros + 1)) mantissaEnd + (d - 48)) mantissaEnd; zeros = 0 }))
+    go : (a b : Bool) → eqb d 48 ≡ a → eqb (m .value) 0 ≡ b
+        → Held (v * 10 + (d - 48)) (k + 1)
+        (cond a (cond b m (record { value = m .value; zeros = m .zeros + 1 }))
+        (record { value = min (min (m .value * 10 ^ (m .zeros + 1)) mantissaEnd + (d - 48)) mantissaEnd; zeros = 0 }))
     go true true e f = push-still v k d m h lo hi (eqb-true d 48 e) (eqb-true (m .value) 0 f)
     go true false e f = push-zero v k d m h lo hi (eqb-true d 48 e) (eqb-false (m .value) 0 f)
     go false b e f = push-digit v k d m h lo hi (eqb-false d 48 e)

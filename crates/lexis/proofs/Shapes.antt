@@ -56,7 +56,8 @@ exp-le-cons x s g h =
 pub exp-le : (s : List ℕ) → expLen s ≤ length s
 unfolding expLen isE
 exp-le [] = zero-le
-exp-le (x ∷ s) = cond-le (eqb x 101 || eqb x 69) (led (1 + signLen s) (digits (drop (1 + signLen s) (x ∷ s)))) (suc (length s)) (exp-le-cons x s (signLen s) (sign-le s))
+exp-le (x ∷ s) =
+    cond-le (eqb x 101 || eqb x 69) (led (1 + signLen s) (digits (drop (1 + signLen s) (x ∷ s)))) (suc (length s)) (exp-le-cons x s (signLen s) (sign-le s))
 
 pub parts-le : (s : List ℕ) → partsLen (partsOf s) ≤ length s
 unfolding partsOf
@@ -121,7 +122,8 @@ module _ (s : List ℕ) (at : ℕ) where
         let d : (digits (drop (at + (1 + g)) s) ≡ 0 → ⊥) = λ q. z (omega arith) in
         rw (exp-here t, led-some (1 + g) _ d) (omega arith)
 
-  pub parts-are : (end f x : ℕ) → end ≡ at + spanLen isDigit (drop at s) → f ≡ fracLen (drop end s) → x ≡ expLen (drop (end + f) s) → record { whole = end - at; frac = f; exp = x } ≡ partsOf (drop at s)
+  pub parts-are : (end f x : ℕ) → end ≡ at + spanLen isDigit (drop at s) → f ≡ fracLen (drop end s) → x ≡ expLen (drop (end + f) s)
+      → record { whole = end - at; frac = f; exp = x } ≡ partsOf (drop at s)
   unfolding partsOf
   parts-are end f x e ef ex =
       let w : ℕ = digits (drop at s) in
@@ -154,15 +156,18 @@ module _ (s : List ℕ) (at : ℕ) where
       unfolding numberLexeme
       number-long t = rw (← is, getD-drop at s (partsLen p) 0, free, t)
 
-      pub number-out : leb (partsLen p) maxNumber ≡ true → inRange (take (partsLen p) (drop at s)) (partsOf (take (partsLen p) (drop at s))) ≡ false → Fault 7 ≡ numberLexeme (drop at s)
+      pub number-out : leb (partsLen p) maxNumber ≡ true → inRange (take (partsLen p) (drop at s)) (partsOf (take (partsLen p) (drop at s))) ≡ false
+          → Fault 7 ≡ numberLexeme (drop at s)
       unfolding numberLexeme
       number-out t r = rw (← is, getD-drop at s (partsLen p) 0, free, t, r)
 
-      pub number-whole : leb (partsLen p) maxNumber ≡ true → inRange (take (partsLen p) (drop at s)) (partsOf (take (partsLen p) (drop at s))) ≡ true → partsLen p ≡ p .whole → Token 2 (partsLen p) ≡ numberLexeme (drop at s)
+      pub number-whole : leb (partsLen p) maxNumber ≡ true → inRange (take (partsLen p) (drop at s)) (partsOf (take (partsLen p) (drop at s))) ≡ true
+          → partsLen p ≡ p .whole → Token 2 (partsLen p) ≡ numberLexeme (drop at s)
       unfolding numberLexeme
       number-whole t r e = rw (← is, getD-drop at s (partsLen p) 0, free, t, r, eq-eqb _ _ e)
 
-      pub number-real : leb (partsLen p) maxNumber ≡ true → inRange (take (partsLen p) (drop at s)) (partsOf (take (partsLen p) (drop at s))) ≡ true → (partsLen p ≡ p .whole → ⊥) → Token 3 (partsLen p) ≡ numberLexeme (drop at s)
+      pub number-real : leb (partsLen p) maxNumber ≡ true → inRange (take (partsLen p) (drop at s)) (partsOf (take (partsLen p) (drop at s))) ≡ true
+          → (partsLen p ≡ p .whole → ⊥) → Token 3 (partsLen p) ≡ numberLexeme (drop at s)
       unfolding numberLexeme
       number-real t r n = rw (← is, getD-drop at s (partsLen p) 0, free, t, r, ne-eqb _ _ n)
 
@@ -180,7 +185,8 @@ module _ (s : List ℕ) (at : ℕ) where
 abbrev parts-with : ℕ → ℕ → ℕ → Parts
 parts-with w f x = record { whole = w; frac = f; exp = x }
 
-pub parts-front : (s : List ℕ) (n f x : ℕ) → n ≡ 0 + spanLen isDigit s → f ≡ fracLen (drop n s) → x ≡ expLen (drop (n + f) s) → record { whole = n; frac = f; exp = x } ≡ partsOf s
+pub parts-front : (s : List ℕ) (n f x : ℕ) → n ≡ 0 + spanLen isDigit s → f ≡ fracLen (drop n s) → x ≡ expLen (drop (n + f) s)
+    → record { whole = n; frac = f; exp = x } ≡ partsOf s
 parts-front s n f x e ef ex = ap (λ (a : ℕ). parts-with a f x) (sym (sub-zero n)) ∙ parts-are s 0 n f x e ef ex
 
 -- ---- the shape
@@ -200,12 +206,14 @@ module _ (s : List ℕ) (at end : ℕ) (run : end ≡ at + spanLen isDigit (drop
       let g : end + 0 + 0 ≡ end = omega arith in
       sym (shape-here 0 0 false (free-frac s end t) (rw e (free-exp s end t)) (rw g t))
 
-  pub shape-frac : (f : ℕ) → f ≡ fracLen (drop end s) → sticks (getD s (end + f) 0) ≡ false → Good (record { whole = end - at; frac = f; exp = 0 }) ≡ shapeOf (drop at s)
+  pub shape-frac : (f : ℕ) → f ≡ fracLen (drop end s) → sticks (getD s (end + f) 0) ≡ false
+      → Good (record { whole = end - at; frac = f; exp = 0 }) ≡ shapeOf (drop at s)
   shape-frac f ef t =
       let g : end + f + 0 ≡ end + f = omega arith in
       sym (shape-here f 0 false ef (free-exp s (end + f) t) (rw g t))
 
-  pub shape-exp : (f x : ℕ) → f ≡ fracLen (drop end s) → x ≡ expLen (drop (end + f) s) → sticks (getD s (end + f + x) 0) ≡ false → Good (record { whole = end - at; frac = f; exp = x }) ≡ shapeOf (drop at s)
+  pub shape-exp : (f x : ℕ) → f ≡ fracLen (drop end s) → x ≡ expLen (drop (end + f) s) → sticks (getD s (end + f + x) 0) ≡ false
+      → Good (record { whole = end - at; frac = f; exp = x }) ≡ shapeOf (drop at s)
   shape-exp f x ef ex t = sym (shape-here f x false ef ex t)
 
   pub shape-stuck : (f x : ℕ) → f ≡ fracLen (drop end s) → x ≡ expLen (drop (end + f) s) → sticks (getD s (end + f + x) 0) ≡ true → Stuck ≡ shapeOf (drop at s)
@@ -217,7 +225,8 @@ pub is-stuck : (s : List ℕ) (at : ℕ) (r : Shape) → r ≡ shapeOf (drop at 
 unfolding shapeOf
 is-stuck s at r e q = go (sticks (getD (drop at s) (partsLen (partsOf (drop at s))) 0)) refl (sym q ∙ e)
   where
-    go : (b : Bool) → sticks (getD (drop at s) (partsLen (partsOf (drop at s))) 0) ≡ b → Stuck ≡ cond b Stuck (Good (partsOf (drop at s))) → Fault 4 ≡ numberLexeme (drop at s)
+    go : (b : Bool) → sticks (getD (drop at s) (partsLen (partsOf (drop at s))) 0) ≡ b → Stuck ≡ cond b Stuck (Good (partsOf (drop at s)))
+        → Fault 4 ≡ numberLexeme (drop at s)
     go true t z = number-sticks s at (partsOf (drop at s)) refl (ap sticks (sym (getD-drop at s (partsLen (partsOf (drop at s))) 0)) ∙ t)
     go false t z = let z′ : _≡_ {A = ℕ} 0 1 = cc in absurd (omega arith)
 

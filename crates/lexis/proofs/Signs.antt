@@ -13,7 +13,7 @@ use borrow.Author.Tests.{lt-ltb, le-ltb, le-leb, lt-leb}
 use mir.Syntax.{w32}
 use mir.Val.{SFits, toZ, ofZ}
 use mir.Facts.{toZ-ofZ, toZ-pos}
-use Rattle.lexis.specs.Sizes.{maxNumber, maxWritten}
+use Rattle.lexis.specs.Sizes.{maxNumber, maxWritten, maxExponent}
 use Rattle.lexis.specs.Number.{isNear}
 
 sub-lt : (a b : ℕ) → a < b → subℕ a b ≡ negsuc (b - suc a)
@@ -138,7 +138,7 @@ not-ltZ (negsuc a) (pos b) = refl
 not-ltZ (negsuc a) (negsuc b) = not-ltb b a
 
 -- a difference of numbers to 64 is near
-pub near-small : (a b : ℕ) → a ≤ maxNumber → b ≤ maxNumber → isNear (subℕ a b) ≡ true
+pub near-small : (a b : ℕ) → a ≤ maxExponent → b ≤ maxExponent → isNear (subℕ a b) ≡ true
 unfolding isNear
 near-small a b h k = go (decLt a b)
   where

@@ -20,7 +20,8 @@ same-lengths (x ∷ a) [] h = refl
 same-lengths (x ∷ a) (y ∷ b) h = rw (same-lengths a b (λ e. h (ap suc e))) (and-false (eqb x y))
 
 module _ (a b : List ℕ) (i : ℕ) where
-  same-here : i < length a → length a ≡ length b → sameBytes (drop i a) (drop i b) ≡ (eqb (getD a i 0) (getD b i 0) && sameBytes (drop (i + 1) a) (drop (i + 1) b))
+  same-here : i < length a → length a ≡ length b
+      → sameBytes (drop i a) (drop i b) ≡ (eqb (getD a i 0) (getD b i 0) && sameBytes (drop (i + 1) a) (drop (i + 1) b))
   unfolding sameBytes
   same-here h e =
       let k : i < length b = omega arith in

@@ -38,11 +38,26 @@ unfolding reducedOf
 is-reduced w = go (eqb (spelt w) 0) refl
   where
     go : (b : Bool) → eqb (spelt w) 0 ≡ b
-        → IsReduced w (cond b (record { mantissa = 0; exponent = pos 0 }) (record { mantissa = strip (length (digitsOf w (partsOf w))) (spelt w) .mantissa; exponent = exponentOf (minusOf w (partsOf w)) (writtenOf w (partsOf w)) (pred (partsOf w .frac)) (strip (length (digitsOf w (partsOf w))) (spelt w) .zeros) }))
+        → IsReduced w
+        (cond b (record { mantissa = 0; exponent = pos 0 })
+        (record {
+          mantissa = strip (length (digitsOf w (partsOf w))) (spelt w) .mantissa;
+          exponent = exponentOf (minusOf w (partsOf w)) (writtenOf w (partsOf w)) (pred (partsOf w .frac))
+              (strip (length (digitsOf w (partsOf w))) (spelt w) .zeros);
+        }))
     go true t =
         let z : spelt w ≡ 0 = eqb-true (spelt w) 0 t in
-        record { zero = λ _. refl; ends = λ n. absurd (n z); value = λ x y e. nothing (10 ^ x) (10 ^ down w) ∙ sym (ap (λ (v : ℕ). v * 10 ^ up w * 10 ^ y) z ∙ nothing (10 ^ up w) (10 ^ y)) }
+        record {
+          zero = λ _. refl;
+          ends = λ n. absurd (n z);
+          value = λ x y e. nothing (10 ^ x) (10 ^ down w)
+              ∙ sym (ap (λ (v : ℕ). v * 10 ^ up w * 10 ^ y) z ∙ nothing (10 ^ up w) (10 ^ y));
+        }
     go false t =
         let r = strip-right (digitsOf w (partsOf w)) (digits-are w) (eqb-false (spelt w) 0 t) in
         let s = strip (length (digitsOf w (partsOf w))) (spelt w) in
-        record { zero = λ z. absurd (eqb-false (spelt w) 0 t z); ends = λ _. r .1; value = λ x y e. same-value (spelt w) (s .mantissa) (s .zeros) (up w) (down w) x y (r .0) (sub-across (up w + s .zeros) (down w) x y e) }
+        record {
+          zero = λ z. absurd (eqb-false (spelt w) 0 t z);
+          ends = λ _. r .1;
+          value = λ x y e. same-value (spelt w) (s .mantissa) (s .zeros) (up w) (down w) x y (r .0) (sub-across (up w + s .zeros) (down w) x y e);
+        }

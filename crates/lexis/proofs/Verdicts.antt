@@ -49,7 +49,8 @@ unfolding numberLexeme
 number-told s =
     let n = partsLen (partsOf s) in
     pick (sticks (getD s n 0)) _ _ (omega arith)
-    (pick (leb n maxNumber) _ _ (pick (inRange (take n s) (partsOf (take n s))) _ _ (cond-kind (eqb n (partsOf s .whole)) 2 3 (omega arith) (omega arith)) (omega arith)) (omega arith))
+    (pick (leb n maxNumber) _ _
+    (pick (inRange (take n s) (partsOf (take n s))) _ _ (cond-kind (eqb n (partsOf s .whole)) 2 3 (omega arith) (omega arith)) (omega arith)) (omega arith))
 
 word-told : (s : List ℕ) → Told (wordLexeme s)
 unfolding wordLexeme

@@ -163,7 +163,8 @@ fn mark(text: &[u8], r: Record, work: &mut [u32], i: usize, marked: bool)
     requires { ⌜ r .start < r .end ⌝ }
     requires { ⌜ r .end ≤ length (now text) ⌝ }
     requires { ⌜ (marked ≡ true → firstMark + i < length (now work)) ⌝ }
-    ensures { λ _. ⌜ now (work .exit) ≡ markedAt marked (now (work .entry)) i (symbolOf (r .kind) (take (r .end - r .start) (drop (r .start) (now (text .entry))))) ⌝ }
+    ensures { λ _. ⌜ now (work .exit) ≡ markedAt marked (now (work .entry)) i
+        (symbolOf (r .kind) (take (r .end - r .start) (drop (r .start) (now (text .entry))))) ⌝ }
 {
     if !marked {
         return;

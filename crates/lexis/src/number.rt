@@ -18,10 +18,14 @@ ghost use Prim.Native.Nat.{_+_, _<_, _≤_, min, pred};
 ghost use lib.ListN.{length, drop, getD};
 ghost use Rattle.lexis.specs.Sizes.{maxNumber, writtenEnd};
 ghost use Rattle.lexis.specs.Bytes.{classTable};
-ghost use Rattle.lexis.specs.Shapes.{shapeOf};
-ghost use Rattle.lexis.specs.Number.{fracLen, signLen, isE, expLen, partsOf, digitsOf, sticks, writtenOf, minusOf, inRange, reductionOf, reduction};
+ghost use Rattle.lexis.specs.Shapes.{shapeOf, isShort};
+ghost use Rattle.lexis.specs.Number.{fracLen, signLen, isE, expLen, partsOf, partsLen, digitsOf, sticks, writtenOf, minusOf, inRange, reductionOf};
+ghost use Rattle.lexis.specs.Number.{reduction};
 ghost use Rattle.lexis.specs.Push.{noDigits, pushAll};
 ghost use Rattle.lexis.specs.Lexeme.{numberLexeme};
+
+// An exponent as written that is near 0 whatever the digits of a short number add to it.
+const SMALL: u32 = 900;
 
 // The three parts of a number: whole digits, point and fraction, exponent; each a count of bytes.
 pub struct Parts {
@@ -277,18 +281,27 @@ fn shape_at(classes: &[u8; 256], text: &[u8], at: usize) -> Shape
     })
 }
 
-// Whether the bytes w of a number, of parts p, are in range. Without an exponent, 18 bytes or fewer always are.
+// Whether the number of parts p at the front of w is short: at most 18 bytes before its exponent, which is small. Such a number is in range.
+fn is_short(classes: &[u8; 256], w: &[u8], p: Parts) -> bool
+    requires { ⌜ now classes ≡ classTable ⌝ }
+    requires { ⌜ partsLen p ≤ length (now w) ⌝ }
+    ensures { λ r. ⌜ r ≡ isShort (now (w .entry)) p ⌝ }
+{
+    if Limits::MANTISSA_DIGITS < p.whole + p.frac {
+        return false;
+    }
+    written_at(classes, w, 0, p) <= SMALL
+}
+
+// Whether the bytes w of a number, of parts p, are in range. Most are short, and told without a look at their digits.
 fn in_range(classes: &[u8; 256], w: &[u8], p: Parts) -> bool
     requires { ⌜ now classes ≡ classTable ⌝ }
     requires { ⌜ length (now w) ≤ maxNumber ⌝ }
     requires { ⌜ p ≡ partsOf (now w) ⌝ }
     ensures { λ r. ⌜ r ≡ inRange (now (w .entry)) p ⌝ }
 {
-    let exp = p.exp;
-    if exp == 0 {
-        if w.len() <= Limits::MANTISSA_DIGITS {
-            return true;
-        }
+    if is_short(classes, w, p) {
+        return true;
     }
     match reduce_at(classes, w, 0, p) {
         Reduction::Number {

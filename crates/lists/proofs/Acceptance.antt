@@ -41,7 +41,8 @@ module _ {A : Type 0} (k : ℕ) (f : Reader A) (faultsOf : A → List Fault) (te
   lawful-by a b nothing e = (refl, cc)
   lawful-by a b (some y) e = absurd (clash cc)
 
-  read-by : (a : A) (ts : List Token) (x : Parse A) → f ts ≡ x → lex text ≡ accepted ts → andThen (syntaxStage k text x) (λ b. rulesStage k b (first (faultsOf b))) ≡ pass a → Passed a
+  read-by : (a : A) (ts : List Token) (x : Parse A) → f ts ≡ x → lex text ≡ accepted ts
+      → andThen (syntaxStage k text x) (λ b. rulesStage k b (first (faultsOf b))) ≡ pass a → Passed a
   read-by a ts (bad c us) r l e = absurd (clash cc)
   read-by a ts (ok b us) r l e =
       let q = lawful-by b a (first (faultsOf b)) e in
@@ -50,7 +51,8 @@ module _ {A : Type 0} (k : ℕ) (f : Reader A) (faultsOf : A → List Fault) (te
   pub passed : (a : A) → stages k f faultsOf text ≡ pass a → Passed a
   passed a e = go (lex text) refl e
     where
-      go : (l : Lexed) → lex text ≡ l → andThen (bytesStage k l) (λ ts. andThen (syntaxStage k text (f ts)) (λ b. rulesStage k b (first (faultsOf b)))) ≡ pass a → Passed a
+      go : (l : Lexed) → lex text ≡ l
+          → andThen (bytesStage k l) (λ ts. andThen (syntaxStage k text (f ts)) (λ b. rulesStage k b (first (faultsOf b)))) ≡ pass a → Passed a
       go (accepted ts) q e = read-by a ts (f ts) refl q e
       go (refused c p) q e = absurd (clash cc)
 

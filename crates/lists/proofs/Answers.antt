@@ -1,13 +1,13 @@
 -- What each way through the code that fits a value to a type answers, whatever stands in the two tables: a value by its first token,
 -- then the items of an array, then items and types side by side. Assumes nothing.
-use mathlib.Core.Path.{_≡_, refl, sym, ap, ap₂, subst, _∙_}
-use mathlib.Core.Bool.{Bool, true, false, _||_}
+use mathlib.Core.Path.{_≡_, refl, sym, ap, subst, _∙_}
+use mathlib.Core.Bool.{Bool, true, false, cond, _||_}
 use mathlib.Core.List.{List, [], _∷_}
 use Prim.Native.Nat.{ℕ, zero, suc, _+_, _-_, _<_, _≤_}
 use native.Mathlib.Omega.{arith}
-use lib.Dec.{eqb, leb}
-use lib.ListN.{take, drop}
-use borrow.Author.Tests.{eqb-true, leb-true, leb-false}
+use lib.Dec.{eqb}
+use lib.ListN.{getD, drop}
+use borrow.Author.Tests.{eqb-true, eqb-false, lt-ltb, le-ltb, le-leb}
 use Rattle.lexis.specs.Lexer.{Token}
 use Rattle.lexis.specs.Symbol.{symOf, isLiteral, leftRound, rightRound, leftSquare, rightSquare, comma, aName, aNumber, aLiteral}
 use Rattle.syntax.specs.Tree.{Value, Values, Ty, Tys}
@@ -19,57 +19,66 @@ use Rattle.syntax.specs.Grammar.{Leaves, Spells, Items, IsType, IsTypes}
 use Rattle.syntax.specs.Grammar.Spells.{a-name, a-literal, an-empty-array, an-array, a-tuple}
 use Rattle.syntax.specs.Grammar.Items.{last-item, next-item}
 use Rattle.syntax.specs.Parser.{rest}
-use Rattle.syntax.specs.Table.{kindAt, startAt, endAt, tokenAt, toks}
+use Rattle.syntax.specs.Table.{tokenAt, toks, Holds}
 use Rattle.syntax.specs.Inner.{theEnd, lookahead}
+use Rattle.syntax.proofs.Row.{cond-has}
 use Rattle.syntax.proofs.Table.{toks-more, toks-rest}
-use Rattle.syntax.proofs.Symbols.{look-none}
 use Rattle.lists.specs.Reading.{fits}
-use Rattle.lists.specs.declared.fitting.Fit.{Fit}
-use Rattle.lists.specs.declared.fitting.Fit.the-variants.{Yes, No}
-use Rattle.lists.specs.Fitting.{literalFits, leafFits, stacked, Several, IsBase, NoPair, Shaped, Columns, InArray, fitsAll, fitsEach, Within, Told, OfValue, OfArray, OfEach}
+use Rattle.lists.specs.declared.types.TypeAt.{TypeAt}
+use Rattle.lists.specs.Types.{kindsOf, OfType}
+use Rattle.lists.specs.Fitting.{leafFits, leafFitsAt, isLeaf, stacked, Several, IsBase, NoPair, Columns, InArray, fitsAll, fitsEach}
+use Rattle.lists.specs.Fitting.{Within, Fitted, leafAnswer, BaseOf, OfValue, OfArray, OfEach}
 use Rattle.lists.specs.Fitting.Columns.{last-column, next-column}
 use Rattle.lists.specs.Fitting.InArray.{no-items, some-items}
-use Rattle.lists.proofs.Fits.{array-fits, all-none, all-more, tuple-fits, each-none, each-few, each-many, each-more, Flat, flat-no, array-no, tuple-no, leaf-name, leaf-literal}
+use Rattle.lists.proofs.Fits.{array-fits, all-none, all-more, tuple-fits, each-none, each-few, each-many, each-more, Flat, flat-no, array-no, tuple-no}
 use Rattle.lists.proofs.Fits.Flat.{flat-name, flat-literal, flat-tuple}
-use Rattle.lists.proofs.TypeTokens.{base-none, base-tuple, base-name}
+use Rattle.lists.proofs.Leaves.{LeafKind, leaf-kind, first-byte, name-fits, literal-fits}
+use Rattle.lists.proofs.TypeTokens.{base-none, base-tuple, base-name, base-of, read-of, shape-of}
 use Rattle.lists.proofs.Phrases.{tuple-columns}
 
 clash : _≡_ {A = ℕ} 0 1 → ⊥
 clash z = omega arith
 
--- ---- places
+-- ---- places and answers
 
-pub no-within : (n i : ℕ) → Within n i No
-no-within n i j e = absurd (clash cc)
+pub none-within : (n i : ℕ) → Within n i 0
+none-within n i = record { past = λ z. absurd (omega arith); inside = omega arith }
 
-pub yes-within : (n i j : ℕ) → i ≤ j → j < n → Within n i (Yes (j + 1))
-yes-within n i j h l k e = let q : j + 1 ≡ k = cc in (omega arith, omega arith)
+pub one-within : (n i j : ℕ) → i ≤ j → j < n → Within n i (j + 1)
+one-within n i j h l = record { past = λ z. omega arith; inside = omega arith }
 
-pub wider : (n i k : ℕ) (r : Fit) → i ≤ k → Within n k r → Within n i r
-wider n i k r h w j e = let q = w j e in (omega (arith, q .0), q .1)
+pub wider : (n i k r : ℕ) → i ≤ k → Within n k r → Within n i r
+wider n i k r h w = record { past = λ z. let q = w .past z in omega arith; inside = w .inside }
 
--- the literal at a place, by the words of its record
-pub literal-token : (text table : List ℕ) (at word s e : ℕ) → s ≡ startAt table at → e ≡ endAt table at → literalFits word (kindAt table at) (take (e - s) (drop s text)) ≡ literalFits word (tokenAt text table at .kind) (tokenAt text table at .bytes)
-unfolding tokenAt
-literal-token text table at word s e p q = ap₂ (λ (x y : ℕ). literalFits word (kindAt table at) (take (y - x) (drop x text))) p q
+module _ {text table : List ℕ} {n : ℕ} {p : Bool} {us : List Token} where
+  fitted-no : p ≡ false → Fitted text table n p us 0
+  fitted-no e = record { misfit = λ z. e; fit = λ z. absurd (omega arith); ends = λ z. absurd (omega arith) }
+
+  fitted-yes : (j : ℕ) → p ≡ true → us ≡ toks text table n (j + 1) → Fitted text table n p us (j + 1)
+  fitted-yes j e f = record { misfit = λ z. absurd (omega arith); fit = λ z. e; ends = λ z. f }
+
+  fitted-as : {q : Bool} {r : ℕ} → q ≡ p → Fitted text table n p us r → Fitted text table n q us r
+  fitted-as e f = record { misfit = λ z. e ∙ f .misfit z; fit = λ z. e ∙ f .fit z; ends = λ z. f .ends z }
 
 -- ---- a value by its first token
 
 -- the number of a literal's terminal lies above a name's
-literal-cases : (s : ℕ) (p q : Bool) → eqb s aNumber ≡ p → eqb s aLiteral ≡ q → (p || q) ≡ true → (aName < s) × (s < theEnd)
+literal-cases : (s : ℕ) (p q : Bool) → eqb s aNumber ≡ p → eqb s aLiteral ≡ q → (p || q) ≡ true → (aName < s) × (s ≤ aLiteral)
 literal-cases s true q e f h = let z = eqb-true s aNumber e in (omega arith, omega arith)
 literal-cases s false true e f h = let z = eqb-true s aLiteral f in (omega arith, omega arith)
 literal-cases s false false e f h = absurd (clash cc)
 
-literal-range : (s : ℕ) → isLiteral s ≡ true → (aName < s) × (s < theEnd)
+literal-range : (s : ℕ) → isLiteral s ≡ true → (aName < s) × (s ≤ aLiteral)
 literal-range s h = literal-cases s (eqb s aNumber) (eqb s aLiteral) refl refl h
 
 -- what a value is, by the first of the tokens ts
 pub data Seen (m : Leaves) (ts : List Token) : Value → List Token → Type 0 where
   a-name-seen : {t : Token} {us : List Token} → ts ≡ t ∷ us → symOf t ≡ aName → Seen m ts (name t) us
   a-literal-seen : {t : Token} {us : List Token} → ts ≡ t ∷ us → isLiteral (symOf t) ≡ true → Seen m ts (literal t) us
-  an-array-seen : {b : ℕ} {o : Token} {xs us : List Token} {vs : Values} → ts ≡ o ∷ xs → symOf o ≡ leftSquare → InArray m b xs vs us → Seen m ts (array o vs) us
-  a-tuple-seen : {b : ℕ} {o : Token} {xs us : List Token} {vs : Values} → ts ≡ o ∷ xs → symOf o ≡ leftRound → Items m rightRound b xs vs us → Seen m ts (tuple o vs) us
+  an-array-seen : {b : ℕ} {o : Token} {xs us : List Token} {vs : Values} → ts ≡ o ∷ xs → symOf o ≡ leftSquare → InArray m b xs vs us
+      → Seen m ts (array o vs) us
+  a-tuple-seen : {b : ℕ} {o : Token} {xs us : List Token} {vs : Values} → ts ≡ o ∷ xs → symOf o ≡ leftRound → Items m rightRound b xs vs us
+      → Seen m ts (tuple o vs) us
 
 pub seen : {m : Leaves} {b : ℕ} {ts us : List Token} {v : Value} → Spells m b ts v us → Seen m ts v us
 seen (a-name h e) = a-name-seen refl e
@@ -82,11 +91,19 @@ seen (a-tuple e h f i) = a-tuple-seen refl e (next-item h f i)
 pub look : {ts : List Token} {t : Token} {us : List Token} {s a : ℕ} → ts ≡ t ∷ us → symOf t ≡ a → s ≡ lookahead ts → s ≡ a
 look p e h = h ∙ (ap lookahead p ∙ e)
 
-pub literal-look : {ts : List Token} {t : Token} {us : List Token} {s : ℕ} → ts ≡ t ∷ us → isLiteral (symOf t) ≡ true → s ≡ lookahead ts → (aName < s) × (s < theEnd)
+pub literal-look : {ts : List Token} {t : Token} {us : List Token} {s : ℕ} → ts ≡ t ∷ us → isLiteral (symOf t) ≡ true → s ≡ lookahead ts
+    → (aName < s) × (s < theEnd)
 literal-look {t = t} {s = s} p f h =
     let q = literal-range (symOf t) f in
     let y : s ≡ symOf t = h ∙ ap lookahead p in
     (omega (arith, q .0, y), omega (arith, q .1, y))
+
+-- the terminals of leaves lie together, above those of brackets
+leaf-between : (s : ℕ) → aName ≤ s → s ≤ aLiteral → isLeaf s ≡ true
+leaf-between s h l = simp (le-ltb s aName h, le-leb s aLiteral l)
+
+leaf-bracket : (s : ℕ) → s < aName → isLeaf s ≡ true → ⊥
+leaf-bracket s h e = let q : false ≡ true = simp (lt-ltb s aName h) at e in clash cc
 
 -- what stands behind the first token
 pub behind : {ts : List Token} {t : Token} {us : List Token} → ts ≡ t ∷ us → us ≡ rest ts
@@ -105,16 +122,19 @@ unfolding stacked
 fits-some v k w h = ap (λ (j : ℕ). fits v (stacked j w)) (deep k h)
 
 -- no tuple fits a type word
-pub word-no-tuple : {c o : ℕ} {ts ws : List Token} {w : Ty} → IsBase c ts w ws → o ≡ lookahead ts → (o ≡ leftRound → ⊥) → (t : Token) (vs : Values) → fits (tuple t vs) w ≡ false
+pub word-no-tuple : {c o : ℕ} {ts ws : List Token} {w : Ty} → IsBase c ts w ws → o ≡ lookahead ts → (o ≡ leftRound → ⊥) → (t : Token) (vs : Values)
+    → fits (tuple t vs) w ≡ false
 word-no-tuple {ts = []} q f d t vs = absurd (base-none refl q)
 word-no-tuple {ts = x ∷ ts} q f d t vs = tuple-no t vs (base-name (λ y. d (f ∙ y)) q)
 
 -- the columns of a tuple type
-tuple-base : {c o : ℕ} {ts ws : List Token} {w : Ty} → IsBase c ts w ws → o ≡ lookahead ts → o ≡ leftRound → (c' : ℕ) × (vs : Tys) × (w ≡ tupleOf vs) × Several vs × IsTypes c' (rest ts) vs ws
+tuple-base : {c o : ℕ} {ts ws : List Token} {w : Ty} → IsBase c ts w ws → o ≡ lookahead ts → o ≡ leftRound
+    → (c' : ℕ) × (vs : Tys) × (w ≡ tupleOf vs) × Several vs × IsTypes c' (rest ts) vs ws
 tuple-base {ts = []} q f d = absurd (base-none refl q)
 tuple-base {ts = x ∷ ts} q f d = base-tuple (sym f ∙ d) q
 
-pub base-columns : (text table : List ℕ) (n i : ℕ) {c o : ℕ} {ws : List Token} {w : Ty} → IsBase c (toks text table n i) w ws → o ≡ lookahead (toks text table n i) → o ≡ leftRound →
+pub base-columns : (text table : List ℕ) (n i : ℕ) {c o : ℕ} {ws : List Token} {w : Ty} → IsBase c (toks text table n i) w ws
+    → o ≡ lookahead (toks text table n i) → o ≡ leftRound →
     (c' : ℕ) × (vs : Tys) × (w ≡ tupleOf vs) × Several vs × Columns 0 c' (toks text table n (i + 1)) vs ws
 base-columns text table n i {ws = ws} q f d =
     let y = tuple-base q f d in
@@ -122,10 +142,16 @@ base-columns text table n i {ws = ws} q f d =
 
 -- the value at place i of one table, the base at place t of another, under k pairs
 module _ (text table : List ℕ) (n i : ℕ) (ttext ttable : List ℕ) (tn t k s : ℕ) (sees : s ≡ lookahead (toks text table n i)) where
-  abbrev Answers : Fit → Type 0
-  Answers r = OfValue text table n i (toks ttext ttable tn t) k r
+  -- whatever value and base stand there, the one does not fit the other
+  abbrev Never : Type 0
+  Never =
+      (m : Leaves) (b : ℕ) (v : Value) (us : List Token) (c : ℕ) (w : Ty) (ws : List Token) → Spells m b (toks text table n i) v us
+      → IsBase c (toks ttext ttable tn t) w ws → fits v (stacked k w) ≡ false
 
-  pub array-flat : s ≡ leftSquare → k ≡ 0 → Answers No
+  pub never : Never → {kinds : ℕ} → OfValue text table n i (toks ttext ttable tn t) kinds k 0
+  never f m b v us c w ws g h = fitted-no (f m b v us c w ws g (h .is-base))
+
+  pub array-flat : s ≡ leftSquare → k ≡ 0 → Never
   array-flat e z m b v us c w ws g h = go (seen g)
     where
       go : {v : Value} {us : List Token} → Seen m (toks text table n i) v us → fits v (stacked k w) ≡ false
@@ -134,18 +160,7 @@ module _ (text table : List ℕ) (n i : ℕ) (ttext ttable : List ℕ) (tn t k s
       go (an-array-seen {o = o} {vs = vs} p f x) = fits-none (array o vs) k w z ∙ array-no o vs h
       go (a-tuple-seen p f x) = absurd (omega (arith, look p f sees))
 
-  pub array-deep : (r : Fit) → s ≡ leftSquare → (k ≡ 0 → ⊥) → OfArray text table n (i + 1) (toks ttext ttable tn t) (k - 1) r → Answers r
-  array-deep r e z f m b v us c w ws g h = go (seen g)
-    where
-      go : {v : Value} {us : List Token} → Seen m (toks text table n i) v us → Told text table n (fits v (stacked k w)) us r
-      go (a-name-seen p f) = absurd (omega (arith, look p f sees))
-      go (a-literal-seen p f) = absurd (omega (arith, literal-look p f sees .0))
-      go {us = us} (an-array-seen {b = b} {o = o} {vs = vs} p q x) =
-          subst (λ (y : Bool). Told text table n y us r) (sym (fits-some (array o vs) k w z ∙ array-fits o vs (stacked (k - 1) w)))
-          (f m b vs us c w ws (subst (λ (xs : List Token). InArray m b xs vs us) (behind p ∙ toks-rest text table n i) x) h)
-      go (a-tuple-seen p f x) = absurd (omega (arith, look p f sees))
-
-  pub flat-deep : (s ≡ leftSquare → ⊥) → (k ≡ 0 → ⊥) → Answers No
+  pub flat-deep : (s ≡ leftSquare → ⊥) → (k ≡ 0 → ⊥) → Never
   flat-deep e z m b v us c w ws g h = go (seen g)
     where
       flat : {v : Value} → Flat v → fits v (stacked k w) ≡ false
@@ -157,82 +172,104 @@ module _ (text table : List ℕ) (n i : ℕ) (ttext ttable : List ℕ) (tn t k s
       go (an-array-seen p f x) = absurd (e (look p f sees))
       go (a-tuple-seen p f x) = flat flat-tuple
 
-  -- no value stands at the end
-  past-end : (r : Fit) → s ≡ theEnd → Answers r
-  past-end r e m b v us c w ws g h = go (seen g)
-    where
-      go : {v : Value} {us : List Token} → Seen m (toks text table n i) v us → Told text table n (fits v (stacked k w)) us r
-      go (a-name-seen p f) = absurd (omega (arith, look p f sees))
-      go (a-literal-seen p f) = absurd (omega (arith, literal-look p f sees .1))
-      go (an-array-seen p f x) = absurd (omega (arith, look p f sees))
-      go (a-tuple-seen p f x) = absurd (omega (arith, look p f sees))
+  -- the terminal of a leaf
+  name-seen : {x : Token} {us : List Token} → toks text table n i ≡ x ∷ us → symOf x ≡ aName → isLeaf s ≡ true
+  name-seen p f = ap isLeaf (look p f sees)
 
-  module _ (z : k ≡ 0) (o : ℕ) (type-sees : o ≡ lookahead (toks ttext ttable tn t)) where
-    pub tuple-word : s ≡ leftRound → (o ≡ leftRound → ⊥) → Answers No
-    tuple-word e d m b v us c w ws g h = go (seen g)
+  literal-seen : {x : Token} {us : List Token} → toks text table n i ≡ x ∷ us → isLiteral (symOf x) ≡ true → isLeaf s ≡ true
+  literal-seen {x} p f = let q = literal-range (symOf x) f in ap isLeaf (sees ∙ ap lookahead p) ∙ leaf-between (symOf x) (omega (arith, q .0)) (q .1)
+
+  -- neither a leaf nor an array: a tuple, at a tuple type
+  module _ (flat : k ≡ 0) (nested : isLeaf s ≡ false) (e : s ≡ leftSquare → ⊥) (o : ℕ) (type-sees : o ≡ lookahead (toks ttext ttable tn t)) where
+    pub tuple-word : (s ≡ leftRound → o ≡ leftRound → ⊥) → Never
+    tuple-word d m b v us c w ws g h = go (seen g)
       where
         go : {v : Value} {us : List Token} → Seen m (toks text table n i) v us → fits v (stacked k w) ≡ false
-        go (a-name-seen p f) = absurd (omega (arith, look p f sees))
-        go (a-literal-seen p f) = absurd (omega (arith, literal-look p f sees .0))
-        go (an-array-seen p f x) = absurd (omega (arith, look p f sees))
-        go (a-tuple-seen {o = o} {vs = vs} p f x) = fits-none (tuple o vs) k w z ∙ word-no-tuple h type-sees d o vs
+        go (a-name-seen p f) = let q = name-seen p f in absurd (clash cc)
+        go (a-literal-seen p f) = let q = literal-seen p f in absurd (clash cc)
+        go (an-array-seen p f x) = absurd (e (look p f sees))
+        go (a-tuple-seen {o = x} {vs = vs} p f y) = fits-none (tuple x vs) k w flat ∙ word-no-tuple h type-sees (λ q. d (look p f sees) q) x vs
 
-    pub tuple-each : (r : Fit) → s ≡ leftRound → o ≡ leftRound → OfEach text table n (i + 1) rightRound (toks ttext ttable tn (t + 1)) 0 r → Answers r
-    tuple-each r e d f m b v us c w ws g h = go (seen g)
+    pub tuple-each : {kinds : ℕ} (r : ℕ) → o ≡ leftRound → OfEach text table n (i + 1) rightRound (toks ttext ttable tn (t + 1)) 0 r
+        → OfValue text table n i (toks ttext ttable tn t) kinds k r
+    tuple-each r d f m b v us c w ws g h = go (seen g)
       where
-        go : {v : Value} {us : List Token} → Seen m (toks text table n i) v us → Told text table n (fits v (stacked k w)) us r
-        go (a-name-seen p q) = absurd (omega (arith, look p q sees))
-        go (a-literal-seen p q) = absurd (omega (arith, literal-look p q sees .0))
-        go (an-array-seen p q x) = absurd (omega (arith, look p q sees))
-        go {us = us} (a-tuple-seen {b = b} {o = o} {vs = vs} p q x) =
-            let y = base-columns ttext ttable tn t h type-sees d in
-            subst (λ (a : Bool). Told text table n a us r) (sym (fits-none (tuple o vs) k w z ∙ (ap (fits (tuple o vs)) (y .2) ∙ tuple-fits o vs (y .1))))
-            (f m b vs us (y .0) (y .1) ws (subst (λ (xs : List Token). Items m rightRound b xs vs us) (behind p ∙ toks-rest text table n i) x)
-            (y .4))
+        go : {v : Value} {us : List Token} → Seen m (toks text table n i) v us → Fitted text table n (fits v (stacked k w)) us r
+        go (a-name-seen p q) = let q = name-seen p q in absurd (clash cc)
+        go (a-literal-seen p q) = let q = literal-seen p q in absurd (clash cc)
+        go (an-array-seen p q x) = absurd (e (look p q sees))
+        go {us = us} (a-tuple-seen {b = b} {o = x} {vs = vs} p q y) =
+            let z = base-columns ttext ttable tn t (h .is-base) type-sees d in
+            let xs = subst (λ (xs : List Token). Items m rightRound b xs vs us) (behind p ∙ toks-rest text table n i) y in
+            fitted-as (fits-none (tuple x vs) k w flat ∙ (ap (fits (tuple x vs)) (z .2) ∙ tuple-fits x vs (z .1))) (f m b vs us (z .0) (z .1) ws xs (z .4))
 
-    -- a leaf
-    module _ (e : s ≡ leftSquare → ⊥) (d : s ≡ leftRound → ⊥) where
-      leaf-is : i < n → (m : Leaves) (b : ℕ) (v : Value) (us : List Token) (c : ℕ) (w : Ty) (ws : List Token) → Spells m b (toks text table n i) v us → IsBase c (toks ttext ttable tn t) w ws → (fits v (stacked k w) ≡ leafFits s o (tokenAt text table i)) × (us ≡ toks text table n (i + 1))
-      leaf-is h m b v us c w ws g q = go (seen g)
-        where
-          first : {x : Token} {us : List Token} → toks text table n i ≡ x ∷ us → (x ≡ tokenAt text table i) × (us ≡ toks text table n (i + 1))
-          first p = let y = sym p ∙ toks-more text table n i h in (cc, cc)
+  pub array-deep : {kinds : ℕ} (r : ℕ) → s ≡ leftSquare → (k ≡ 0 → ⊥) → OfArray text table n (i + 1) (toks ttext ttable tn t) kinds (k - 1) r
+      → OfValue text table n i (toks ttext ttable tn t) kinds k r
+  array-deep r e z f m b v us c w ws g h = go (seen g)
+    where
+      go : {v : Value} {us : List Token} → Seen m (toks text table n i) v us → Fitted text table n (fits v (stacked k w)) us r
+      go (a-name-seen p f) = absurd (omega (arith, look p f sees))
+      go (a-literal-seen p f) = absurd (omega (arith, literal-look p f sees .0))
+      go {us = us} (an-array-seen {b = b} {o = o} {vs = vs} p q x) =
+          let xs = subst (λ (xs : List Token). InArray m b xs vs us) (behind p ∙ toks-rest text table n i) x in
+          fitted-as (fits-some (array o vs) k w z ∙ array-fits o vs (stacked (k - 1) w)) (f m b vs us c w ws xs h)
+      go (a-tuple-seen p f x) = absurd (omega (arith, look p f sees))
 
-          onto : {x : Token} → x ≡ tokenAt text table i → symOf x ≡ s → leafFits (symOf x) o x ≡ leafFits s o (tokenAt text table i)
-          onto {x} p y = ap₂ (λ (a : ℕ) (b : Token). leafFits a o b) y p
+  -- a leaf
+  module _ (holds : Holds text table n) (bytes : (j : ℕ) → getD text j 0 < 256) (h : i < n) (leaf : isLeaf s ≡ true) where
+    leaf-is : (kinds : ℕ) → k ≡ 0 → (m : Leaves) (b : ℕ) (v : Value) (us : List Token) (c : ℕ) (w : Ty) (ws : List Token)
+        → Spells m b (toks text table n i) v us
+        → BaseOf kinds c (toks ttext ttable tn t) w ws → (fits v (stacked k w) ≡ leafFitsAt text table i kinds) × (us ≡ toks text table n (i + 1))
+    leaf-is kinds z m b v us c w ws g q = go (seen g)
+      where
+        first : {x : Token} {us : List Token} → toks text table n i ≡ x ∷ us → (x ≡ tokenAt text table i) × (us ≡ toks text table n (i + 1))
+        first p = let y = sym p ∙ toks-more text table n i h in (cc, cc)
 
-          by-name : {ts : List Token} → IsBase c ts w ws → o ≡ lookahead ts → (x : Token) → symOf x ≡ aName → fits (name x) w ≡ leafFits (symOf x) o x
-          by-name {ts = []} q f x y = absurd (base-none refl q)
-          by-name {ts = a ∷ ts} q f x y = leaf-name x q y ∙ ap (λ (j : ℕ). leafFits (symOf x) j x) (sym f)
+        onto : {x : Token} → x ≡ tokenAt text table i → leafFits (kindsOf w) (x .kind) (x .bytes) ≡ leafFitsAt text table i kinds
+        onto p = ap (λ (y : Token). leafFits (kindsOf w) (y .kind) (y .bytes)) p ∙ ap (λ (j : ℕ). leafFitsAt text table i j) (sym (q .takes))
 
-          by-literal : {ts : List Token} → IsBase c ts w ws → o ≡ lookahead ts → (x : Token) → (symOf x ≡ aName → ⊥) → fits (literal x) w ≡ leafFits (symOf x) o x
-          by-literal {ts = []} q f x y = absurd (base-none refl q)
-          by-literal {ts = a ∷ ts} q f x y = leaf-literal x q y ∙ ap (λ (j : ℕ). leafFits (symOf x) j x) (sym f)
+        kinded : {x : Token} → x ≡ tokenAt text table i → symOf x ≡ s → LeafKind (x .kind) (symOf x)
+        kinded {x} p f = leaf-kind x (rw p (first-byte text table n i holds h bytes)) (ap isLeaf f ∙ leaf)
 
-          go : {v : Value} {us : List Token} → Seen m (toks text table n i) v us → (fits v (stacked k w) ≡ leafFits s o (tokenAt text table i)) × (us ≡ toks text table n (i + 1))
-          go (a-name-seen {t = x} p f) = (fits-none (name x) k w z ∙ (by-name q type-sees x f ∙ onto (first p .0) (sym (look p refl sees))), first p .1)
-          go (a-literal-seen {t = x} p f) =
-              let y = literal-range (symOf x) f in
-              (fits-none (literal x) k w z ∙ (by-literal q type-sees x (λ a. omega (arith, y .0, a)) ∙ onto (first p .0) (sym (look p refl sees))), first p .1)
-          go (an-array-seen p f x) = absurd (e (look p f sees))
-          go (a-tuple-seen p f x) = absurd (d (look p f sees))
+        go : {v : Value} {us : List Token} → Seen m (toks text table n i) v us
+            → (fits v (stacked k w) ≡ leafFitsAt text table i kinds) × (us ≡ toks text table n (i + 1))
+        go (a-name-seen {t = x} p f) =
+            let y = kinded (first p .0) (sym (look p refl sees)) in
+            (fits-none (name x) k w z ∙ (name-fits x (q .is-base) y f ∙ onto (first p .0)), first p .1)
+        go (a-literal-seen {t = x} p f) =
+            let y = kinded (first p .0) (sym (look p refl sees)) in
+            (fits-none (literal x) k w z ∙ (literal-fits x (q .is-base) y f ∙ onto (first p .0)), first p .1)
+        go (an-array-seen p f x) = let y = look p f sees in absurd (leaf-bracket s (omega (arith, y)) leaf)
+        go (a-tuple-seen p f x) = let y = look p f sees in absurd (leaf-bracket s (omega (arith, y)) leaf)
 
-      pub leaf-yes : i < n → (x : Bool) → x ≡ leafFits s o (tokenAt text table i) → x ≡ true → Answers (Yes (i + 1))
-      leaf-yes h x f y m b v us c w ws g q = let r = leaf-is h m b v us c w ws g q in (r .0 ∙ (sym f ∙ y), r .1)
+    leaf-cases : (kinds : ℕ) (x : Bool) → leafFitsAt text table i kinds ≡ x → k ≡ 0
+        → OfValue text table n i (toks ttext ttable tn t) kinds k (cond x (i + 1) 0)
+    leaf-cases kinds true e z m b v us c w ws g q = let r = leaf-is kinds z m b v us c w ws g q in fitted-yes i (r .0 ∙ e) (r .1)
+    leaf-cases kinds false e z m b v us c w ws g q = fitted-no (leaf-is kinds z m b v us c w ws g q .0 ∙ e)
 
-      pub leaf-no : (x : Bool) → (i < n → x ≡ leafFits s o (tokenAt text table i)) → x ≡ false → Answers No
-      leaf-no x f y = go (leb n i) refl
-        where
-          go : (a : Bool) → leb n i ≡ a → Answers No
-          go true p = past-end No (sees ∙ sym (look-none text table n i (leb-true n i p)))
-          go false p = let h = leb-false n i p in λ m b v us c w ws g q. leaf-is h m b v us c w ws g q .0 ∙ (sym (f h) ∙ y)
+    pub leaf-answer : (kinds r : ℕ) → r ≡ leafAnswer text table i kinds k → OfValue text table n i (toks ttext ttable tn t) kinds k r
+    leaf-answer kinds r e = go (eqb k 0) refl
+      where
+        onto : {x : ℕ} → r ≡ x → OfValue text table n i (toks ttext ttable tn t) kinds k x → OfValue text table n i (toks ttext ttable tn t) kinds k r
+        onto p f m b v us c w ws g q = subst (λ (y : ℕ). Fitted text table n (fits v (stacked k w)) us y) (sym p) (f m b v us c w ws g q)
+
+        go : (x : Bool) → eqb k 0 ≡ x → OfValue text table n i (toks ttext ttable tn t) kinds k r
+        go true p = onto (simp p at e) (leaf-cases kinds (leafFitsAt text table i kinds) refl (eqb-true k 0 p))
+        go false p = onto (simp p at e) (never (flat-deep (λ y. leaf-bracket s (omega (arith, y)) leaf) (eqb-false k 0 p)))
+
+    pub leaf-within : (kinds r : ℕ) → r ≡ leafAnswer text table i kinds k → Within n i r
+    leaf-within kinds r e =
+        subst (Within n i) (sym e)
+        (cond-has (Within n i) (eqb k 0) (cond-has (Within n i) (leafFitsAt text table i kinds) (one-within n i i (omega arith) h) (none-within n i))
+        (none-within n i))
 
 -- ---- the items of an array
 
 -- items from place i on, as the loop over them meets them
-abbrev pub OfItems : List ℕ → List ℕ → ℕ → ℕ → List Token → ℕ → Fit → Type 0
-OfItems text table n i ts k r =
-    (m : Leaves) (b : ℕ) (vs : Values) (us : List Token) (c : ℕ) (w : Ty) (ws : List Token) → Items m rightSquare b (toks text table n i) vs us → IsBase c ts w ws → Told text table n (fitsAll vs (stacked k w)) us r
+abbrev pub OfItems : List ℕ → List ℕ → ℕ → ℕ → List Token → ℕ → ℕ → ℕ → Type 0
+OfItems text table n i ts kinds k r =
+    (m : Leaves) (b : ℕ) (vs : Values) (us : List Token) (c : ℕ) (w : Ty) (ws : List Token) → Items m rightSquare b (toks text table n i) vs us
+    → BaseOf kinds c ts w ws → Fitted text table n (fitsAll vs (stacked k w)) us r
 
 -- no value begins with a closing bracket
 first-not : {m : Leaves} {b : ℕ} {ts us : List Token} {v : Value} {s : ℕ} → Spells m b ts v us → s ≡ lookahead ts → s ≡ rightSquare → ⊥
@@ -244,57 +281,63 @@ first-not {ts = ts} {s = s} g e f = go (seen g)
     go (an-array-seen p q x) = absurd (omega (arith, look p q e))
     go (a-tuple-seen p q x) = absurd (omega (arith, look p q e))
 
-module _ (text table : List ℕ) (n i : ℕ) (ts : List Token) (k s : ℕ) (sees : s ≡ lookahead (toks text table n i)) where
-  pub array-empty : s ≡ rightSquare → OfArray text table n i ts k (Yes (i + 1))
+module _ (text table : List ℕ) (n i : ℕ) (ts : List Token) (kinds k s : ℕ) (sees : s ≡ lookahead (toks text table n i)) where
+  pub array-empty : s ≡ rightSquare → OfArray text table n i ts kinds k (i + 1)
   array-empty e m b vs us c w ws g h = go refl g
     where
-      go : {xs : List Token} {vs : Values} {us : List Token} → toks text table n i ≡ xs → InArray m b xs vs us → (fitsAll vs (stacked k w) ≡ true) × (us ≡ toks text table n (i + 1))
-      go p (no-items f) = (all-none (stacked k w), behind p ∙ toks-rest text table n i)
+      go : {xs : List Token} {vs : Values} {us : List Token} → toks text table n i ≡ xs → InArray m b xs vs us
+          → Fitted text table n (fitsAll vs (stacked k w)) us (i + 1)
+      go p (no-items f) = fitted-yes i (all-none (stacked k w)) (behind p ∙ toks-rest text table n i)
       go p (some-items (last-item x f)) = absurd (first-not x (sees ∙ ap lookahead p) e)
       go p (some-items (next-item x f y)) = absurd (first-not x (sees ∙ ap lookahead p) e)
 
-  pub array-some : (r : Fit) → (s ≡ rightSquare → ⊥) → OfItems text table n i ts k r → OfArray text table n i ts k r
+  pub array-some : (r : ℕ) → (s ≡ rightSquare → ⊥) → OfItems text table n i ts kinds k r → OfArray text table n i ts kinds k r
   array-some r e f m b vs us c w ws g h = go refl g
     where
-      go : {xs : List Token} {vs : Values} {us : List Token} → toks text table n i ≡ xs → InArray m b xs vs us → Told text table n (fitsAll vs (stacked k w)) us r
+      go : {xs : List Token} {vs : Values} {us : List Token} → toks text table n i ≡ xs → InArray m b xs vs us
+          → Fitted text table n (fitsAll vs (stacked k w)) us r
       go p (no-items q) = absurd (e (sees ∙ (ap lookahead p ∙ q)))
       go {vs = vs} {us = us} p (some-items x) = f m b vs us c w ws (subst (λ (xs : List Token). Items m rightSquare b xs vs us) (sym p) x) h
 
--- the answer x of one value
-module _ (text table : List ℕ) (n i : ℕ) (ts : List Token) (k : ℕ) (x : Fit) (one : OfValue text table n i ts k x) where
-  not-fit : x ≡ No → {m : Leaves} {b c : ℕ} {v : Value} {w : Ty} {us ws : List Token} → Spells m b (toks text table n i) v us → IsBase c ts w ws → fits v (stacked k w) ≡ false
-  not-fit e {m} {b} {c} {v} {w} {us} {ws} g h = subst (λ (r : Fit). Told text table n (fits v (stacked k w)) us r) e (one m b v us c w ws g h)
-
-  does-fit : {j : ℕ} → x ≡ Yes j → {m : Leaves} {b c : ℕ} {v : Value} {w : Ty} {us ws : List Token} → Spells m b (toks text table n i) v us → IsBase c ts w ws → (fits v (stacked k w) ≡ true) × (us ≡ toks text table n j)
-  does-fit e {m} {b} {c} {v} {w} {us} {ws} g h = subst (λ (r : Fit). Told text table n (fits v (stacked k w)) us r) e (one m b v us c w ws g h)
-
+-- the answer j of one value
+module _ (text table : List ℕ) (n i : ℕ) (ts : List Token) (kinds k j : ℕ) (one : OfValue text table n i ts kinds k j) where
   all-false : (v : Value) (vs : Values) (u : Ty) → fits v u ≡ false → fitsAll (more v vs) u ≡ false
   all-false v vs u e = all-more v vs u ∙ simp e
 
   all-true : (v : Value) (vs : Values) (u : Ty) → fits v u ≡ true → fitsAll (more v vs) u ≡ fitsAll vs u
   all-true v vs u e = all-more v vs u ∙ simp e
 
-  pub items-no : x ≡ No → OfItems text table n i ts k No
-  items-no e m b vs us c w ws (last-item {v = v} g f) h = all-false v none (stacked k w) (not-fit e g h)
-  items-no e m b vs us c w ws (next-item {v = v} {vs = vs'} g f q) h = all-false v vs' (stacked k w) (not-fit e g h)
+  answer : {m : Leaves} {b c : ℕ} {v : Value} {w : Ty} {us ws : List Token} → Spells m b (toks text table n i) v us → BaseOf kinds c ts w ws
+      → Fitted text table n (fits v (stacked k w)) us j
+  answer {m} {b} {c} {v} {w} {us} {ws} g h = one m b v us c w ws g h
 
-  module _ (j s : ℕ) (reached : x ≡ Yes j) (sees : s ≡ lookahead (toks text table n j)) where
-    pub items-last : s ≡ rightSquare → OfItems text table n i ts k (Yes (j + 1))
+  pub items-no : j ≡ 0 → OfItems text table n i ts kinds k 0
+  items-no e m b vs us c w ws (last-item {v = v} g f) h = fitted-no (all-false v none (stacked k w) (answer g h .misfit e))
+  items-no e m b vs us c w ws (next-item {v = v} {vs = vs'} g f q) h = fitted-no (all-false v vs' (stacked k w) (answer g h .misfit e))
+
+  module _ (s : ℕ) (reached : 0 < j) (sees : s ≡ lookahead (toks text table n j)) where
+    -- what follows an item
+    after : {m : Leaves} {b c a : ℕ} {v : Value} {w : Ty} {o : Token} {us ws : List Token} → Spells m b (toks text table n i) v (o ∷ us)
+        → BaseOf kinds c ts w ws
+        → symOf o ≡ a → s ≡ a
+    after g h f = look (sym (answer g h .ends reached)) f sees
+
+    pub items-last : s ≡ rightSquare → OfItems text table n i ts kinds k (j + 1)
     items-last e m b vs us c w ws (last-item {v = v} g f) h =
-        let q = does-fit reached g h in
-        (all-true v none (stacked k w) (q .0) ∙ all-none (stacked k w), behind (sym (q .1)) ∙ toks-rest text table n j)
-    items-last e m b vs us c w ws (next-item g f y) h = let q = does-fit reached g h in absurd (omega (arith, look (sym (q .1)) f sees))
+        let q = answer g h in
+        fitted-yes j (all-true v none (stacked k w) (q .fit reached) ∙ all-none (stacked k w)) (behind (sym (q .ends reached)) ∙ toks-rest text table n j)
+    items-last e m b vs us c w ws (next-item g f y) h = absurd (omega (arith, after g h f))
 
-    pub items-next : (r : Fit) → s ≡ comma → OfItems text table n (j + 1) ts k r → OfItems text table n i ts k r
-    items-next r e t m b vs us c w ws (last-item g f) h = let q = does-fit reached g h in absurd (omega (arith, look (sym (q .1)) f sees))
+    pub items-next : (r : ℕ) → s ≡ comma → OfItems text table n (j + 1) ts kinds k r → OfItems text table n i ts kinds k r
+    items-next r e t m b vs us c w ws (last-item g f) h = absurd (omega (arith, after g h f))
     items-next r e t m b vs us c w ws (next-item {v = v} {vs = vs'} g f y) h =
-        let q = does-fit reached g h in
-        subst (λ (a : Bool). Told text table n a us r) (sym (all-true v vs' (stacked k w) (q .0)))
-        (t m b vs' us c w ws (subst (λ (xs : List Token). Items m rightSquare b xs vs' us) (behind (sym (q .1)) ∙ toks-rest text table n j) y) h)
+        let q = answer g h in
+        let xs = subst (λ (xs : List Token). Items m rightSquare b xs vs' us) (behind (sym (q .ends reached)) ∙ toks-rest text table n j) y in
+        fitted-as (all-true v vs' (stacked k w) (q .fit reached)) (t m b vs' us c w ws xs h)
 
-    pub items-neither : (r : Fit) → (s ≡ rightSquare → ⊥) → (s ≡ comma → ⊥) → OfItems text table n i ts k r
-    items-neither r e d m b vs us c w ws (last-item g f) h = let q = does-fit reached g h in absurd (e (look (sym (q .1)) f sees))
-    items-neither r e d m b vs us c w ws (next-item g f y) h = let q = does-fit reached g h in absurd (d (look (sym (q .1)) f sees))
+    pub items-neither : (r : ℕ) → (s ≡ rightSquare → ⊥) → (s ≡ comma → ⊥) → OfItems text table n i ts kinds k r
+    items-neither r e d m b vs us c w ws (last-item g f) h = absurd (e (after g h f))
+    items-neither r e d m b vs us c w ws (next-item g f y) h = absurd (d (after g h f))
 
 -- ---- items and types side by side
 
@@ -335,59 +378,70 @@ toks-lead text table n i lead = drop-toks lead i
         let q : i + 1 + k ≡ i + suc k = omega arith in
         drop-rest k (toks text table n i) ∙ (ap (drop k) (toks-rest text table n i) ∙ (drop-toks k (i + 1) ∙ ap (λ (j : ℕ). toks text table n j) q))
 
--- the value at place i, the type at place j + lead, which has k pairs and ends at place e
-module _ (text table : List ℕ) (n i close : ℕ) (ttext ttable : List ℕ) (tn j lead k e : ℕ)
-    (shape : (b : ℕ) (u : Ty) (us : List Token) → IsType b (toks ttext ttable tn (j + lead)) u us → NoPair us → Shaped b (toks ttext ttable tn (j + lead)) u k × (us ≡ toks ttext ttable tn e))
-    (x : Fit) (one : OfValue text table n i (toks ttext ttable tn (j + lead)) k x) where
-  abbrev Sides : Fit → Type 0
+-- the value at place i, with the answer x, and the type u at place j + lead
+module _ (text table : List ℕ) (n i close : ℕ) (ttext ttable : List ℕ) (tn j lead : ℕ) (u : TypeAt) (read : OfType ttext ttable tn (j + lead) u)
+    (x : ℕ) (one : OfValue text table n i (toks ttext ttable tn (j + lead)) (u .kinds) (u .pairs) x) where
+  abbrev Sides : ℕ → Type 0
   Sides r = OfEach text table n i close (toks ttext ttable tn j) lead r
 
-  placed : {b : ℕ} {u : Ty} {us : List Token} → IsType b (drop lead (toks ttext ttable tn j)) u us → IsType b (toks ttext ttable tn (j + lead)) u us
-  placed {b} {u} {us} h = subst (λ (ts : List Token). IsType b ts u us) (toks-lead ttext ttable tn j lead) h
+  module _ {m : Leaves} {b c : ℕ} {v : Value} {w : Ty} {us ws : List Token} (g : Spells m b (toks text table n i) v us)
+      (h : IsType c (drop lead (toks ttext ttable tn j)) w ws) (f : NoPair ws) where
+    placed : IsType c (toks ttext ttable tn (j + lead)) w ws
+    placed = subst (λ (ts : List Token). IsType c ts w ws) (toks-lead ttext ttable tn j lead) h
 
-  side-no : x ≡ No → {m : Leaves} {b c : ℕ} {v : Value} {u : Ty} {us ws : List Token} → Spells m b (toks text table n i) v us → IsType c (drop lead (toks ttext ttable tn j)) u ws → NoPair ws → fits v u ≡ false
-  side-no y {m} {b} {c} {v} {u} {us} {ws} g h f =
-      let q = shape c u ws (placed h) f .0 in
-      ap (fits v) (q .under) ∙ not-fit text table n i (toks ttext ttable tn (j + lead)) k x one y g (q .is-base)
+    side : Fitted text table n (fits v w) us x
+    side =
+        let q = shape-of ttext ttable tn (j + lead) u read placed f in
+        fitted-as (ap (fits v) (q .under)) (one m b v us c (q .base) (q .after) g (base-of q (read-of ttext ttable tn (j + lead) u read placed f .kinds)))
 
-  side-yes : {p : ℕ} → x ≡ Yes p → {m : Leaves} {b c : ℕ} {v : Value} {u : Ty} {us ws : List Token} → Spells m b (toks text table n i) v us → IsType c (drop lead (toks ttext ttable tn j)) u ws → NoPair ws → (fits v u ≡ true) × (us ≡ toks text table n p) × (ws ≡ toks ttext ttable tn e)
-  side-yes y {m} {b} {c} {v} {u} {us} {ws} g h f =
-      let q = shape c u ws (placed h) f in
-      let r = does-fit text table n i (toks ttext ttable tn (j + lead)) k x one y g (q .0 .is-base) in
-      (ap (fits v) (q .0 .under) ∙ r .0, r .1, q .1)
+    side-end : ws ≡ toks ttext ttable tn (u .end)
+    side-end = read-of ttext ttable tn (j + lead) u read placed f .end
 
-  pub each-no : x ≡ No → Sides No
-  each-no y m b vs us c cs ws (last-item {v = v} g f) (last-column {u = u} h d) = each-false v none u no-type (side-no y g h (round-no-pair d))
-  each-no y m b vs us c cs ws (last-item {v = v} g f) (next-column {u = u} {vs = us'} h d q) = each-false v none u us' (side-no y g h (comma-no-pair d))
-  each-no y m b vs us c cs ws (next-item {v = v} {vs = vs'} g f p) (last-column {u = u} h d) = each-false v vs' u no-type (side-no y g h (round-no-pair d))
-  each-no y m b vs us c cs ws (next-item {v = v} {vs = vs'} g f p) (next-column {u = u} {vs = us'} h d q) = each-false v vs' u us' (side-no y g h (comma-no-pair d))
+  pub each-no : x ≡ 0 → Sides 0
+  each-no y m b vs us c cs ws (last-item {v = v} g f) (last-column {u = u} h d) =
+      fitted-no (each-false v none u no-type (side g h (round-no-pair d) .misfit y))
+  each-no y m b vs us c cs ws (last-item {v = v} g f) (next-column {u = u} {vs = us'} h d q) =
+      fitted-no (each-false v none u us' (side g h (comma-no-pair d) .misfit y))
+  each-no y m b vs us c cs ws (next-item {v = v} {vs = vs'} g f p) (last-column {u = u} h d) =
+      fitted-no (each-false v vs' u no-type (side g h (round-no-pair d) .misfit y))
+  each-no y m b vs us c cs ws (next-item {v = v} {vs = vs'} g f p) (next-column {u = u} {vs = us'} h d q) =
+      fitted-no (each-false v vs' u us' (side g h (comma-no-pair d) .misfit y))
 
-  module _ (p s o : ℕ) (reached : x ≡ Yes p) (sees : s ≡ lookahead (toks text table n p)) (type-sees : o ≡ lookahead (toks ttext ttable tn e)) where
-    pub each-stop : (s ≡ close → o ≡ rightRound → ⊥) → (s ≡ comma → o ≡ comma → ⊥) → Sides No
-    each-stop y w m b vs us c cs ws (last-item g f) (last-column h d) =
-        let q = side-yes reached g h (round-no-pair d) in absurd (y (look (sym (q .1)) f sees) (look (sym (q .2)) d type-sees))
-    each-stop y w m b vs us c cs ws (last-item {v = v} g f) (next-column {u = u} {vs = us'} h d r) =
-        let q = side-yes reached g h (comma-no-pair d) in each-true v none u us' (q .0) ∙ columns-some r
-    each-stop y w m b vs us c cs ws (next-item {v = v} {vs = vs'} g f r) (last-column {u = u} h d) =
-        let q = side-yes reached g h (round-no-pair d) in each-true v vs' u no-type (q .0) ∙ items-some r
-    each-stop y w m b vs us c cs ws (next-item g f r) (next-column h d t) =
-        let q = side-yes reached g h (comma-no-pair d) in absurd (w (look (sym (q .1)) f sees) (look (sym (q .2)) d type-sees))
+  module _ (s o : ℕ) (reached : 0 < x) (sees : s ≡ lookahead (toks text table n x)) (type-sees : o ≡ lookahead (toks ttext ttable tn (u .end))) where
+    -- what follows the value, and the type
+    after-value : {m : Leaves} {b c a : ℕ} {v : Value} {w : Ty} {e : Token} {us ws : List Token} → Spells m b (toks text table n i) v (e ∷ us)
+        → IsType c (drop lead (toks ttext ttable tn j)) w ws → NoPair ws → symOf e ≡ a → s ≡ a
+    after-value g h f y = look (sym (side g h f .ends reached)) y sees
+
+    after-type : {m : Leaves} {b c a : ℕ} {v : Value} {w : Ty} {e : Token} {us ws : List Token} → Spells m b (toks text table n i) v us
+        → IsType c (drop lead (toks ttext ttable tn j)) w (e ∷ ws) → NoPair (e ∷ ws) → symOf e ≡ a → o ≡ a
+    after-type g h f y = look (sym (side-end g h f)) y type-sees
+
+    pub each-stop : (s ≡ close → o ≡ rightRound → ⊥) → (s ≡ comma → o ≡ comma → ⊥) → Sides 0
+    each-stop y z m b vs us c cs ws (last-item g f) (last-column h d) = absurd (y (after-value g h (round-no-pair d) f) (after-type g h (round-no-pair d) d))
+    each-stop y z m b vs us c cs ws (last-item {v = v} g f) (next-column {u = w} {vs = us'} h d r) =
+        fitted-no (each-true v none w us' (side g h (comma-no-pair d) .fit reached) ∙ columns-some r)
+    each-stop y z m b vs us c cs ws (next-item {v = v} {vs = vs'} g f r) (last-column {u = w} h d) =
+        fitted-no (each-true v vs' w no-type (side g h (round-no-pair d) .fit reached) ∙ items-some r)
+    each-stop y z m b vs us c cs ws (next-item g f r) (next-column h d t) =
+        absurd (z (after-value g h (comma-no-pair d) f) (after-type g h (comma-no-pair d) d))
 
     module _ (z : close ≡ comma → ⊥) where
-      pub each-last : s ≡ close → o ≡ rightRound → Sides (Yes (p + 1))
-      each-last y w m b vs us c cs ws (last-item {v = v} g f) (last-column {u = u} h d) =
-          let q = side-yes reached g h (round-no-pair d) in
-          (each-true v none u no-type (q .0) ∙ each-none, behind (sym (q .1)) ∙ toks-rest text table n p)
-      each-last y w m b vs us c cs ws (last-item g f) (next-column h d r) = let q = side-yes reached g h (comma-no-pair d) in absurd (omega (arith, w, look (sym (q .2)) d type-sees))
-      each-last y w m b vs us c cs ws (next-item g f r) (last-column h d) = let q = side-yes reached g h (round-no-pair d) in absurd (z (sym y ∙ look (sym (q .1)) f sees))
-      each-last y w m b vs us c cs ws (next-item g f r) (next-column h d t) = let q = side-yes reached g h (comma-no-pair d) in absurd (z (sym y ∙ look (sym (q .1)) f sees))
+      pub each-last : s ≡ close → o ≡ rightRound → Sides (x + 1)
+      each-last y e m b vs us c cs ws (last-item {v = v} g f) (last-column {u = w} h d) =
+          let q = side g h (round-no-pair d) in
+          fitted-yes x (each-true v none w no-type (q .fit reached) ∙ each-none) (behind (sym (q .ends reached)) ∙ toks-rest text table n x)
+      each-last y e m b vs us c cs ws (last-item g f) (next-column h d r) = absurd (omega (arith, e, after-type g h (comma-no-pair d) d))
+      each-last y e m b vs us c cs ws (next-item g f r) (last-column h d) = absurd (z (sym y ∙ after-value g h (round-no-pair d) f))
+      each-last y e m b vs us c cs ws (next-item g f r) (next-column h d t) = absurd (z (sym y ∙ after-value g h (comma-no-pair d) f))
 
-      pub each-next : (r : Fit) → s ≡ comma → o ≡ comma → OfEach text table n (p + 1) close (toks ttext ttable tn (e + 1)) lead r → Sides r
-      each-next r y w a m b vs us c cs ws (last-item g f) (last-column h d) = let q = side-yes reached g h (round-no-pair d) in absurd (omega (arith, w, look (sym (q .2)) d type-sees))
-      each-next r y w a m b vs us c cs ws (last-item g f) (next-column h d t) = let q = side-yes reached g h (comma-no-pair d) in absurd (z (sym (look (sym (q .1)) f sees) ∙ y))
-      each-next r y w a m b vs us c cs ws (next-item g f v) (last-column h d) = let q = side-yes reached g h (round-no-pair d) in absurd (omega (arith, w, look (sym (q .2)) d type-sees))
-      each-next r y w a m b vs us c cs ws (next-item {v = v} {vs = vs'} g f i') (next-column {u = u} {vs = us'} h d t) =
-          let q = side-yes reached g h (comma-no-pair d) in
-          subst (λ (x : Bool). Told text table n x us r) (sym (each-true v vs' u us' (q .0)))
-          (a m b vs' us c us' ws (subst (λ (xs : List Token). Items m close b xs vs' us) (behind (sym (q .1)) ∙ toks-rest text table n p) i')
-          (subst (λ (xs : List Token). Columns lead c xs us' ws) (behind (sym (q .2)) ∙ toks-rest ttext ttable tn e) t))
+      pub each-next : (r : ℕ) → s ≡ comma → o ≡ comma → OfEach text table n (x + 1) close (toks ttext ttable tn (u .end + 1)) lead r → Sides r
+      each-next r y e a m b vs us c cs ws (last-item g f) (last-column h d) = absurd (omega (arith, e, after-type g h (round-no-pair d) d))
+      each-next r y e a m b vs us c cs ws (last-item g f) (next-column h d t) = absurd (z (sym (after-value g h (comma-no-pair d) f) ∙ y))
+      each-next r y e a m b vs us c cs ws (next-item g f v) (last-column h d) = absurd (omega (arith, e, after-type g h (round-no-pair d) d))
+      each-next r y e a m b vs us c cs ws (next-item {v = v} {vs = vs'} g f i') (next-column {u = w} {vs = us'} h d t) =
+          let q = side g h (comma-no-pair d) in
+          let xs = subst (λ (xs : List Token). Items m close b xs vs' us) (behind (sym (q .ends reached)) ∙ toks-rest text table n x) i' in
+          let ts = subst (λ (xs : List Token). Columns lead c xs us' ws)
+          (behind (sym (side-end g h (comma-no-pair d))) ∙ toks-rest ttext ttable tn (u .end)) t in
+          fitted-as (each-true v vs' w us' (q .fit reached)) (a m b vs' us c us' ws xs ts)

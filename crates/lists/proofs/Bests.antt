@@ -29,7 +29,8 @@ pub walk-start : {all rest m : Option Fault} → m ≡ nothing → all ≡ rest 
 walk-start {rest = rest} h e = e ∙ sym (ap (λ (x : Option Fault). earlier x rest) h)
 
 -- what is left is what stands here and what is left behind it; the code takes the earlier of what it has and what stands here
-pub walk-on : (m here behind : Option Fault) {all rest r m' : Option Fault} → all ≡ earlier m rest → rest ≡ earlier here behind → r ≡ here → m' ≡ earlier m r → all ≡ earlier m' behind
+pub walk-on : (m here behind : Option Fault) {all rest r m' : Option Fault} → all ≡ earlier m rest → rest ≡ earlier here behind → r ≡ here
+    → m' ≡ earlier m r → all ≡ earlier m' behind
 walk-on m here behind inv next found took =
     inv ∙ ap (earlier m) next ∙ sym (earlier-assoc m here behind) ∙ ap (λ (x : Option Fault). earlier x behind) (ap (earlier m) (sym found) ∙ sym took)
 

@@ -13,15 +13,14 @@ use lib.Seq.{drop-cons}
 use Rattle.lexis.specs.Words.{sameBytes}
 use Rattle.lexis.specs.Lexer.{Token}
 use Rattle.syntax.specs.Tree.{Header}
-use Rattle.syntax.specs.Parser.{header}
-use Rattle.syntax.specs.Table.{startAt, tokenAt}
+use Rattle.syntax.specs.Table.{tokenAt}
 use Rattle.lists.specs.Names.{isAmong}
 use Rattle.lists.specs.Reading.{isSome}
 use Rattle.lists.specs.Found.{operationOf, find, indexOf, found}
 use Rattle.lists.specs.Lists.{Heads, no-head, a-head, NamePlaces, entries, lookupFrom}
-use Rattle.lists.specs.declared.operation.Lookup.{Lookup}
-use Rattle.lists.specs.declared.operation.Lookup.the-variants.{At, Missing}
-use Rattle.lists.proofs.Own.{name-there, keyword-there}
+use Rattle.lists.specs.declared.directory.Lookup.{Lookup}
+use Rattle.lists.specs.declared.directory.Lookup.the-variants.{At, Missing}
+use Rattle.lists.proofs.Own.{name-there}
 
 -- ---- what a directory says
 
@@ -33,12 +32,6 @@ module _ (text table : List ℕ) (n b : ℕ) where
   heads-names p no-head = refl
   heads-names p (a-head {q = q} r e hs) =
       ap₂ (λ (x : Token) (xs : List Token). x ∷ xs) (name-there text table n b q (p .below 0 (omega arith) .1) r e) (heads-names (places-tail p) hs)
-
-  pub heads-words : {qs : List ℕ} {hs : List Header} → NamePlaces n qs → Heads text table n b qs hs → map (λ q. startAt table (q - 1)) qs ≡ map (λ (h : Header). h .keyword .start) hs
-  unfolding tokenAt
-  heads-words p no-head = refl
-  heads-words p (a-head {q = q} r e hs) =
-      ap₂ (λ (x : ℕ) (xs : List ℕ). x ∷ xs) (ap (λ (t : Token). t .start) (keyword-there text table n b q (p .below 0 (omega arith) .1) r e)) (heads-words (places-tail p) hs)
 
 -- ---- a search
 
@@ -67,21 +60,25 @@ module _ (text table words : List ℕ) (t : Token) where
   search-end k h = simp (drop-of-length-le words h)
 
 -- what is found, by the trees
-lookup-found : (k : ℕ) (hs : List Header) (t : Token) → lookupFrom k (map (λ (h : Header). h .name) hs) t ≡ cond (isSome (find hs t)) (At (k + indexOf hs t)) Missing
+lookup-found : (k : ℕ) (hs : List Header) (t : Token)
+    → lookupFrom k (map (λ (h : Header). h .name) hs) t ≡ cond (isSome (find hs t)) (At (k + indexOf hs t)) Missing
 unfolding lookupFrom operationOf indexOf
 lookup-found k [] t = refl
 lookup-found k (g ∷ hs) t = go (sameBytes (g .name .bytes) (t .bytes)) (lookup-found (suc k) hs t)
   where
     go : (b : Bool) → lookupFrom (suc k) (map (λ (h : Header). h .name) hs) t ≡ cond (isSome (find hs t)) (At (suc k + indexOf hs t)) Missing
-        → cond b (At k) (lookupFrom (suc k) (map (λ (h : Header). h .name) hs) t) ≡ cond (isSome (cond b (some g) (find hs t))) (At (k + cond b 0 (suc (indexOf hs t)))) Missing
+        → cond b (At k) (lookupFrom (suc k) (map (λ (h : Header). h .name) hs) t) ≡ cond (isSome (cond b (some g) (find hs t)))
+        (At (k + cond b 0 (suc (indexOf hs t)))) Missing
     go true e = ap At (sym (add-zero k))
     go false e = let z : suc k + indexOf hs t ≡ k + suc (indexOf hs t) = omega arith in e ∙ ap (λ (m : ℕ). cond (isSome (find hs t)) (At m) Missing) z
 
-pub search-found : (text table words : List ℕ) (n b : ℕ) (t : Token) (hs : List Header) → NamePlaces n words → Heads text table n b words hs → lookupFrom 0 (entries text table words) t ≡ found hs t
+pub names-found : (hs : List Header) (t : Token) → lookupFrom 0 (map (λ (h : Header). h .name) hs) t ≡ found hs t
 unfolding found
-search-found text table words n b t hs p h =
-    let z : 0 + indexOf hs t ≡ indexOf hs t = omega arith in
-    ap (λ (x : List Token). lookupFrom 0 x t) (heads-names text table n b p h) ∙ lookup-found 0 hs t ∙ ap (λ (m : ℕ). cond (isSome (find hs t)) (At m) Missing) z
+names-found hs t = let z : 0 + indexOf hs t ≡ indexOf hs t = omega arith in lookup-found 0 hs t ∙ ap (λ (m : ℕ). cond (isSome (find hs t)) (At m) Missing) z
+
+pub search-found : (text table words : List ℕ) (n b : ℕ) (t : Token) (hs : List Header) → NamePlaces n words → Heads text table n b words hs
+    → lookupFrom 0 (entries text table words) t ≡ found hs t
+search-found text table words n b t hs p h = ap (λ (x : List Token). lookupFrom 0 x t) (heads-names text table n b p h) ∙ names-found hs t
 
 -- a name is among those where it is found
 pub at-among : (k i : ℕ) (ss : List Token) (t : Token) → lookupFrom k ss t ≡ At i → isAmong ss t ≡ true
@@ -98,6 +95,7 @@ unfolding lookupFrom isAmong
 missing-among k [] t h = refl
 missing-among k (s ∷ ss) t h = go (sameBytes (s .bytes) (t .bytes)) h (missing-among (suc k) ss t)
   where
-    go : (b : Bool) → cond b (At k) (lookupFrom (suc k) ss t) ≡ Missing → (lookupFrom (suc k) ss t ≡ Missing → isAmong ss t ≡ false) → (b || isAmong ss t) ≡ false
+    go : (b : Bool) → cond b (At k) (lookupFrom (suc k) ss t) ≡ Missing → (lookupFrom (suc k) ss t ≡ Missing → isAmong ss t ≡ false)
+        → (b || isAmong ss t) ≡ false
     go true e r = let z : _≡_ {A = ℕ} 0 1 = cc in absurd (omega arith)
     go false e r = r e

@@ -51,6 +51,18 @@ pub no-starts : (ts : List Token) → starts ts ≡ [] → ts ≡ []
 no-starts [] h = refl
 no-starts (t ∷ ts) h = let z : _≡_ {A = ℕ} 0 1 = cc in absurd (omega arith)
 
+-- a list without faults has no more operations than it may
+pub few-operations : (hs : List Header) → first (listFaults hs) ≡ nothing → length hs ≤ maxOperations
+few-operations hs h =
+    let ks = map (λ (g : Header). g .keyword .start) hs in
+    let a = first (over maxOperations ks) in
+    let b = first (faults 13 (starts (repeats (map (λ (g : Header). g .name) hs)))) in
+    let c = first (flatMap L.headerFaults hs) in
+    let e = neither a (earlier b c) (sym (list-parts hs) ∙ h) .0 in
+    let n = none-beyond maxOperations ks (no-faults 12 (take 1 (drop maxOperations ks)) (first-none (over maxOperations ks) e)) in
+    let l : length ks ≡ length hs = length-map hs (λ (g : Header). g .keyword .start) in
+    omega arith
+
 fewer-repeats : (seen ss ts : List Token) → repeatsAfter seen (ss ++ ts) ≡ [] → repeatsAfter seen ss ≡ []
 unfolding repeatsAfter
 fewer-repeats seen [] ts h = refl
@@ -78,10 +90,12 @@ pub few-params : (h : Header) → first (L.headerFaults h) ≡ nothing → lengt
 few-params h e =
     let ps = starts (paramNames (h .params)) in
     let n = none-beyond maxParameters ps (no-faults 12 (take 1 (drop maxParameters ps)) (first-none (over maxParameters ps) (own-none h e .0))) in
-    let l : length (starts (paramNames (h .params))) ≡ length (h .params) = length-map (paramNames (h .params)) (λ (t : Token). t .start) ∙ length-map (h .params) (λ (p : Param). p .name) in
+    let l : length (starts (paramNames (h .params))) ≡ length (h .params) = length-map (paramNames (h .params)) (λ (t : Token). t .start)
+    ∙ length-map (h .params) (λ (p : Param). p .name) in
     omega arith
 
 pub apart-params : (h : Header) → first (L.headerFaults h) ≡ nothing → repeats (paramNames (h .params)) ≡ []
 apart-params h e =
     let ts = repeats (headerNames h) in
-    fewer-repeats [] (paramNames (h .params)) (map (λ (r : Result). r .name) (h .results)) (no-starts ts (no-faults 13 (starts ts) (first-none (faults 13 (starts ts)) (own-none h e .1))))
+    fewer-repeats [] (paramNames (h .params)) (map (λ (r : Result). r .name) (h .results))
+    (no-starts ts (no-faults 13 (starts ts) (first-none (faults 13 (starts ts)) (own-none h e .1))))

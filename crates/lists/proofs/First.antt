@@ -27,7 +27,8 @@ before-is x y h = place (ltb (x .at) (y .at)) refl h
     code e true p q = by-code e (ltb-true (x .code) (y .code) p)
     code e false p q = detail e (eqb (x .code) (y .code)) refl q
 
-    same : (b : Bool) → eqb (x .at) (y .at) ≡ b → (b && (ltb (x .code) (y .code) || (eqb (x .code) (y .code) && leb (x .detail) (y .detail)))) ≡ true → Before x y
+    same : (b : Bool) → eqb (x .at) (y .at) ≡ b → (b && (ltb (x .code) (y .code) || (eqb (x .code) (y .code) && leb (x .detail) (y .detail)))) ≡ true
+        → Before x y
     same true p q = code (eqb-true (x .at) (y .at) p) (ltb (x .code) (y .code)) refl q
     same false p q = absurd (false≢true q)
 
@@ -41,7 +42,13 @@ unfolding before
 is-before x y (by-place h) = simp (lt-ltb (x .at) (y .at) h)
 is-before x y (by-code e h) = simp (le-ltb (x .at) (y .at) (omega arith), eq-eqb (x .at) (y .at) e, lt-ltb (x .code) (y .code) h)
 is-before x y (by-detail e k h) =
-    simp (le-ltb (x .at) (y .at) (omega arith), eq-eqb (x .at) (y .at) e, le-ltb (x .code) (y .code) (omega arith), eq-eqb (x .code) (y .code) k, le-leb (x .detail) (y .detail) h)
+    simp (
+      le-ltb (x .at) (y .at) (omega arith),
+      eq-eqb (x .at) (y .at) e,
+      le-ltb (x .code) (y .code) (omega arith),
+      eq-eqb (x .code) (y .code) k,
+      le-leb (x .detail) (y .detail) h,
+    )
 
 pub before-trans : {x y z : Fault} → Before x y → Before y z → Before x z
 before-trans (by-place h) (by-place k) = by-place (omega arith)
@@ -84,7 +91,8 @@ after-is x y h = place (ltb (x .at) (y .at)) refl h
     code e true p q = absurd (true≢false q)
     code e false p q = detail e (ltb-false (x .code) (y .code) p) (eqb (x .code) (y .code)) refl q
 
-    same : y .at ≤ x .at → (b : Bool) → eqb (x .at) (y .at) ≡ b → (b && (ltb (x .code) (y .code) || (eqb (x .code) (y .code) && leb (x .detail) (y .detail)))) ≡ false → Before y x
+    same : y .at ≤ x .at → (b : Bool) → eqb (x .at) (y .at) ≡ b
+        → (b && (ltb (x .code) (y .code) || (eqb (x .code) (y .code) && leb (x .detail) (y .detail)))) ≡ false → Before y x
     same l true p q = code (eqb-true (x .at) (y .at) p) (ltb (x .code) (y .code)) refl q
     same l false p q = let n : y .at < x .at = omega (arith, eqb-false (x .at) (y .at) p) in by-place n
 
@@ -154,7 +162,9 @@ of-assoc x y z =
     isY e = least-only y z (earlierOf (earlierOf x y) z) (record { one = inl e; left = rw e (before-refl y); right = least (earlierOf x y) z .right })
 
     isZ : earlierOf (earlierOf x y) z ≡ z → earlierOf (earlierOf x y) z ≡ earlierOf y z
-    isZ e = least-only y z (earlierOf (earlierOf x y) z) (record { one = inr e; left = before-trans (least (earlierOf x y) z .left) (least x y .right); right = least (earlierOf x y) z .right })
+    isZ e =
+        least-only y z (earlierOf (earlierOf x y) z)
+        (record { one = inr e; left = before-trans (least (earlierOf x y) z .left) (least x y .right); right = least (earlierOf x y) z .right })
 
     one : (earlierOf (earlierOf x y) z ≡ earlierOf x y) ⊎ (earlierOf (earlierOf x y) z ≡ z) → (earlierOf x y ≡ x) ⊎ (earlierOf x y ≡ y)
         → (earlierOf (earlierOf x y) z ≡ x) ⊎ (earlierOf (earlierOf x y) z ≡ earlierOf y z)
@@ -246,8 +256,10 @@ test-place x y h = simp (ne-eqb (x .at) (y .at) h) (sym (or-false (ltb (x .at) (
 
 pub test-code : (x y : Fault) → x .at ≡ y .at → (x .code ≡ y .code → ⊥) → ltb (x .code) (y .code) ≡ before x y
 unfolding before
-test-code x y e h = simp (le-ltb (x .at) (y .at) (omega arith), eq-eqb (x .at) (y .at) e, ne-eqb (x .code) (y .code) h) (sym (or-false (ltb (x .code) (y .code))))
+test-code x y e h =
+    simp (le-ltb (x .at) (y .at) (omega arith), eq-eqb (x .at) (y .at) e, ne-eqb (x .code) (y .code) h) (sym (or-false (ltb (x .code) (y .code))))
 
 pub test-detail : (x y : Fault) → x .at ≡ y .at → x .code ≡ y .code → leb (x .detail) (y .detail) ≡ before x y
 unfolding before
-test-detail x y e k = simp (le-ltb (x .at) (y .at) (omega arith), eq-eqb (x .at) (y .at) e, le-ltb (x .code) (y .code) (omega arith), eq-eqb (x .code) (y .code) k)
+test-detail x y e k =
+    simp (le-ltb (x .at) (y .at) (omega arith), eq-eqb (x .at) (y .at) e, le-ltb (x .code) (y .code) (omega arith), eq-eqb (x .code) (y .code) k)

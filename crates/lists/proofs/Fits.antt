@@ -1,26 +1,20 @@
--- Fitting by trees: leaves against a type's word, items one by one, and what no pair of brackets fits. Assumes nothing.
+-- Fitting by trees: items one by one, and what no pair of brackets fits. Assumes nothing.
 use mathlib.Core.Path.{_≡_, refl}
-use mathlib.Core.Bool.{Bool, true, false, cond, _&&_, _||_}
-use mathlib.Core.List.{List, _∷_}
+use mathlib.Core.Bool.{true, false, _&&_}
+use mathlib.Core.List.{List}
 use mathlib.Core.Option.{Option, some}
 use mathlib.Core.Option.{none as nothing}
 use Prim.Native.Nat.{ℕ}
-use lib.Dec.{eqb, leb}
-use borrow.Author.Tests.{ne-eqb}
-use Rattle.lexis.specs.Kind as Kind
-use Rattle.lexis.specs.Sizes.{maxExtent}
-use Rattle.lexis.specs.Number.{valueFrom}
 use Rattle.lexis.specs.Lexer.{Token}
-use Rattle.lexis.specs.Symbol.{symOf, aName, tensorWord}
 use Rattle.syntax.specs.Tree.{Value, Values, Ty, Tys}
 use Rattle.syntax.specs.Tree.Value.{name, literal, array, tuple}
 use Rattle.syntax.specs.Tree.Values.{none, more}
-use Rattle.syntax.specs.Tree.Ty.{string, arrayOf, tupleOf}
+use Rattle.syntax.specs.Tree.Ty.{arrayOf, tupleOf}
 use Rattle.syntax.specs.Tree.Tys.{no-type, a-type}
 use Rattle.syntax.specs.Grammar.{IsTypeName}
 use Rattle.syntax.specs.Grammar.IsTypeName.{is-tensor, is-extent, is-scalar, is-logical, is-string}
-use Rattle.lists.specs.Reading.{Val, vArray, vTuple, a-val, where-true, isNumber, bind, isSome, readAt, readAll, readEach, fits}
-use Rattle.lists.specs.Fitting.{literalFits, leafFits, IsBase, fitsAll, fitsEach}
+use Rattle.lists.specs.Reading.{vArray, vTuple, a-val, bind, isSome, readAt, readAll, readEach, fits}
+use Rattle.lists.specs.Fitting.{IsBase, fitsAll, fitsEach}
 use Rattle.lists.specs.Fitting.IsBase.{a-word, a-tuple-base}
 
 some-bind : {A B : Type 0} (o : Option A) (f : A → B) → isSome (bind o (λ a. some (f a))) ≡ isSome o
@@ -102,39 +96,3 @@ tuple-no t vs is-extent = refl
 tuple-no t vs is-scalar = refl
 tuple-no t vs is-logical = refl
 tuple-no t vs is-string = refl
-
--- ---- leaves
-
-where-some : (p : Bool) (v : Val) → isSome (where-true p v) ≡ p
-where-some true v = refl
-where-some false v = refl
-
-cond-some : (p q : Bool) (v w : Val) → isSome (cond p (some v) (where-true q w)) ≡ (p || q)
-cond-some true q v w = refl
-cond-some false q v w = where-some q w
-
-name-word : {s : ℕ} {w : Ty} (t : Token) → IsTypeName s w → fits (name t) w ≡ eqb s tensorWord
-unfolding fits readAt
-name-word t is-tensor = refl
-name-word t is-extent = refl
-name-word t is-scalar = refl
-name-word t is-logical = refl
-name-word t is-string = refl
-
-literal-word : {s : ℕ} {w : Ty} (t : Token) → IsTypeName s w → fits (literal t) w ≡ literalFits s (t .kind) (t .bytes)
-unfolding fits readAt literalFits
-literal-word t is-tensor = cond-some (eqb (t .kind) Kind.truth) (isNumber (t .kind)) _ _
-literal-word t is-extent = where-some (eqb (t .kind) Kind.whole && leb (valueFrom 0 (t .bytes)) maxExtent) _
-literal-word t is-scalar = where-some (isNumber (t .kind)) _
-literal-word t is-logical = where-some (eqb (t .kind) Kind.truth) _
-literal-word t is-string = where-some (eqb (t .kind) Kind.string) _
-
-pub leaf-name : {c : ℕ} {o : Token} {ts ws : List Token} {w : Ty} (t : Token) → IsBase c (o ∷ ts) w ws → symOf t ≡ aName → fits (name t) w ≡ leafFits (symOf t) (symOf o) t
-unfolding leafFits fits readAt
-leaf-name t (a-word h) e = rw e (name-word t h)
-leaf-name t (a-tuple-base f d h) e = rw (e, f)
-
-pub leaf-literal : {c : ℕ} {o : Token} {ts ws : List Token} {w : Ty} (t : Token) → IsBase c (o ∷ ts) w ws → (symOf t ≡ aName → ⊥) → fits (literal t) w ≡ leafFits (symOf t) (symOf o) t
-unfolding leafFits fits readAt literalFits
-leaf-literal t (a-word h) e = rw (ne-eqb (symOf t) aName e) (literal-word t h)
-leaf-literal t (a-tuple-base f d h) e = rw (ne-eqb (symOf t) aName e, f)

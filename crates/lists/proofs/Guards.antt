@@ -23,7 +23,8 @@ module _ {A : Type 0} (list doc : List ℕ) (s : Stage A) where
   pub guard-list : {b : Bool} → b ≡ true → leb (length list) maxText ≡ false → guarded b list doc s ≡ stop (answer Code.longText 1 maxText 0)
   guard-list e f = rw (e, f)
 
-  pub guard-document : {b : Bool} → b ≡ true → leb (length list) maxText ≡ true → leb (length doc) maxText ≡ false → guarded b list doc s ≡ stop (answer Code.longText 2 maxText 0)
+  pub guard-document : {b : Bool} → b ≡ true → leb (length list) maxText ≡ true → leb (length doc) maxText ≡ false
+      → guarded b list doc s ≡ stop (answer Code.longText 2 maxText 0)
   guard-document e f g = rw (e, f, g)
 
   pub guard-none : {b : Bool} → b ≡ true → leb (length list) maxText ≡ true → leb (length doc) maxText ≡ true → guarded b list doc s ≡ s
@@ -41,7 +42,8 @@ unfolding workAfter
 kept work h e = sym (rw (e, h))
 
 -- after stages whose refusals have other codes it is zero over its full length
-pub cleared-after : {A : Type 0} (s : Stage A) (n : A → ℕ) → ((a : Answer) → s ≡ stop a → 3 ≤ a .code) → (k : ℕ) (work : List ℕ) {r : Answer} → k ≡ length work → r ≡ stageAnswer s n
+pub cleared-after : {A : Type 0} (s : Stage A) (n : A → ℕ) → ((a : Answer) → s ≡ stop a → 3 ≤ a .code) → (k : ℕ) (work : List ℕ) {r : Answer}
+    → k ≡ length work → r ≡ stageAnswer s n
     → replicate k 0 ≡ workAfter r work
 unfolding workAfter
 cleared-after {A} s n h k work {r} l e = ap (λ (x : ℕ). replicate {A = ℕ} x 0) l ∙ go s h e

@@ -43,7 +43,9 @@ param-lays b ts p us h =
       left = x .colon ∷ x .typed;
       is = x .is;
       a-name = x .a-name;
-      plain = one-more (colon-plain (x .colon) (x .a-colon)) (passes-trans (over-is (type-over b (x .typed)) (x .a-type)) (over-is (default-over b (x .valued)) (x .a-default)));
+      plain =
+          one-more (colon-plain (x .colon) (x .a-colon))
+          (passes-trans (over-is (type-over b (x .typed)) (x .a-type)) (over-is (default-over b (x .valued)) (x .a-default)));
     }
 
 pub result-lays : (b : ℕ) → Lays (result b) (λ (r : Result). r .name)
@@ -64,7 +66,8 @@ module _ {A : Type 0} (read : Reader A) (nameOf : A → Token) (small : Shrinks 
   run-over (one-more h p) r = pass h (run-over p r)
 
   -- an item, and the run after it
-  then-run : (ts : List Token) {a : A} {us ws : List Token} {xs : List A} → read ts ≡ ok a us → ItemRun read nameOf us xs ws → ItemRun read nameOf ts (a ∷ xs) ws
+  then-run : (ts : List Token) {a : A} {us ws : List Token} {xs : List A} → read ts ≡ ok a us → ItemRun read nameOf us xs ws
+      → ItemRun read nameOf ts (a ∷ xs) ws
   then-run ts {a} {us} e r =
       let x = lays ts a us e in
       rw (x .is) (item (x .a-name) refl (ap read (sym (x .is)) ∙ e) (run-over (x .plain) r))
@@ -76,7 +79,8 @@ module _ {A : Type 0} (read : Reader A) (nameOf : A → Token) (small : Shrinks 
       none r = elim r [ ]
   row-run (x ∷ xs) ts {ws} e = go (row-ok rightRound read small ts e) refl (λ us f. row-run xs us f)
     where
-      go : {ys : List A} → Rowed rightRound read ts ws ys → ys ≡ x ∷ xs → ((us : List Token) → row plain (commas rightRound) read us ≡ ok xs ws → ItemRun read nameOf us xs ws) → ItemRun read nameOf ts ys ws
+      go : {ys : List A} → Rowed rightRound read ts ws ys → ys ≡ x ∷ xs
+          → ((us : List Token) → row plain (commas rightRound) read us ≡ ok xs ws → ItemRun read nameOf us xs ws) → ItemRun read nameOf ts ys ws
       go (last {c = c} f k) q r = then-run ts f (pass (plain-of c rightRound k (λ h. omega arith) (λ h. omega arith) (λ h. omega arith)) stop)
       go (next {c = c} {us = us} {xs = zs} f k g) q r =
           let z : zs ≡ xs = cc in
@@ -117,7 +121,8 @@ module _ {A : Type 0} {read : Reader A} {nameOf : A → Token} (s : ℕ) (other 
   run-names (pass {t = t} {ts = ts} h r) e =
       ap (those (isA aName)) (upto-over s t ts (ne-eqb (symOf t) s (plain-not t h))) ∙ name-out t (upto s ts) (h .noName) ∙ run-names r e
   run-names (item {t = t} {ts = ts} {x = x} {xs = xs} h n d r) e =
-      ap (those (isA aName)) (upto-over s t ts (ne-eqb (symOf t) s (λ z. other (sym z ∙ h)))) ∙ name-in t (upto s ts) h ∙ ap (λ (w : Token). w ∷ those (isA aName) (upto s ts)) (sym n)
+      ap (those (isA aName)) (upto-over s t ts (ne-eqb (symOf t) s (λ z. other (sym z ∙ h)))) ∙ name-in t (upto s ts) h
+      ∙ ap (λ (w : Token). w ∷ those (isA aName) (upto s ts)) (sym n)
       ∙ ap (λ (ws : List Token). nameOf x ∷ ws) (run-names r e)
 
 -- ---- a header
@@ -146,8 +151,12 @@ header-laid b ts {h} {us} e =
       is = x .is;
       a-name = x .a-name;
       an-arrow = x .an-arrow;
-      the-params = pass (round-plain (x .opening) (x .opens)) (row-run (param b) (λ (p : Param). p .name) (param-shrinks b) (param-lays b) (h .params) (x .listed) (x .the-params));
-      the-results = pass (round-plain (x .second) (x .opens-again)) (row-run (result b) (λ (r : Result). r .name) (result-shrinks b) (result-lays b) (h .results) (x .given) (x .the-results));
+      the-params =
+          pass (round-plain (x .opening) (x .opens))
+          (row-run (param b) (λ (p : Param). p .name) (param-shrinks b) (param-lays b) (h .params) (x .listed) (x .the-params));
+      the-results =
+          pass (round-plain (x .second) (x .opens-again))
+          (row-run (result b) (λ (r : Result). r .name) (result-shrinks b) (result-lays b) (h .results) (x .given) (x .the-results));
     }
 
 pub arrow-not : (t : Token) → Plain t → symOf t ≡ arrow → ⊥

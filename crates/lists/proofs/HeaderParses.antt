@@ -64,20 +64,26 @@ expect-ok s (x ∷ ts) {t} {us} h = go (eqb (symOf x) s) refl h
 -- the first item, and the last one's end or a comma and the rest of the row
 pub data Rowed {A : Type 0} (close : ℕ) (item : Reader A) (ts : List Token) (ws : List Token) : List A → Type 0 where
   last : {a : A} {c : Token} → item ts ≡ ok a (c ∷ ws) → symOf c ≡ close → Rowed close item ts ws (a ∷ [])
-  next : {a : A} {c : Token} {us : List Token} {xs : List A} → item ts ≡ ok a (c ∷ us) → symOf c ≡ comma → row plain (commas close) item us ≡ ok xs ws → Rowed close item ts ws (a ∷ xs)
+  next : {a : A} {c : Token} {us : List Token} {xs : List A} → item ts ≡ ok a (c ∷ us) → symOf c ≡ comma → row plain (commas close) item us ≡ ok xs ws
+      → Rowed close item ts ws (a ∷ xs)
 
-pub row-ok : {A : Type 0} (close : ℕ) (item : Reader A) → Shrinks item → (ts : List Token) {xs : List A} {ws : List Token} → row plain (commas close) item ts ≡ ok xs ws → Rowed close item ts ws xs
+pub row-ok : {A : Type 0} (close : ℕ) (item : Reader A) → Shrinks item → (ts : List Token) {xs : List A} {ws : List Token}
+    → row plain (commas close) item ts ≡ ok xs ws → Rowed close item ts ws xs
 unfolding follow
 row-ok {A} close item small ts {xs} {ws} h =
     let c = then-ok (item ts) _ (sym (row-is plain (commas close) item small ts) ∙ h) in
     on (c .tree) (c .left) (c .one) (c .then-on)
   where
-    on : (a : A) (us : List Token) → item ts ≡ ok a us → onward (follow (commas close) us) us (λ vs. mapped (λ ys. a ∷ ys) (row plain (commas close) item vs)) (λ vs. ok (a ∷ []) vs) ≡ ok xs ws → Rowed close item ts ws xs
+    on : (a : A) (us : List Token) → item ts ≡ ok a us
+        → onward (follow (commas close) us) us (λ vs. mapped (λ ys. a ∷ ys) (row plain (commas close) item vs)) (λ vs. ok (a ∷ []) vs) ≡ ok xs ws
+        → Rowed close item ts ws xs
     on a [] e k = let z : _≡_ {A = ℕ} 0 1 = cc in absurd (omega arith)
     on a (t ∷ us) e k = go (eqb (symOf t) comma) (eqb (symOf t) close) refl refl k
       where
         go : (x y : Bool) → eqb (symOf t) comma ≡ x → eqb (symOf t) close ≡ y
-            → onward (cond x (again us) (cond y (done us) neither)) (t ∷ us) (λ vs. mapped (λ ys. a ∷ ys) (row plain (commas close) item vs)) (λ vs. ok (a ∷ []) vs) ≡ ok xs ws → Rowed close item ts ws xs
+            → onward (cond x (again us) (cond y (done us) neither)) (t ∷ us) (λ vs. mapped (λ ys. a ∷ ys) (row plain (commas close) item vs))
+            (λ vs. ok (a ∷ []) vs) ≡ ok xs ws
+            → Rowed close item ts ws xs
         go true y p q j =
             let m = mapped-ok (λ (ys : List A). a ∷ ys) (row plain (commas close) item us) j in
             rw (sym (m .made)) (next e (eqb-true (symOf t) comma p) (m .one))
@@ -209,21 +215,23 @@ pub data IsList (b : ℕ) : List Token → List Header → Type 0 where
   a-header : {t : Token} {ts us : List Token} {h : Header} {hs : List Header} → header b (t ∷ ts) ≡ ok h us → IsList b us hs → IsList b (t ∷ ts) (h ∷ hs)
 
 -- the first header and the list after it
-record Begun (b : ℕ) (ts : List Token) (hs : List Header) : Type 0 where
-  head : Header
-  others : List Header
-  left : List Token
-  is : hs ≡ head ∷ others
-  read : header b ts ≡ ok head left
-  more : operations b left ≡ ok others []
+pub record Begun (b : ℕ) (ts : List Token) (hs : List Header) : Type 0 where
+  pub head : Header
+  pub others : List Header
+  pub left : List Token
+  pub is : hs ≡ head ∷ others
+  pub read : header b ts ≡ ok head left
+  pub more : operations b left ≡ ok others []
 
-begun : (b : ℕ) (t : Token) (ts : List Token) (hs : List Header) → operations b (t ∷ ts) ≡ ok hs [] → Begun b (t ∷ ts) hs
+pub begun : (b : ℕ) (t : Token) (ts : List Token) (hs : List Header) → operations b (t ∷ ts) ≡ ok hs [] → Begun b (t ∷ ts) hs
 unfolding operations follow
 begun b t ts hs e =
     let c = then-ok (header b (t ∷ ts)) _ (sym (row-is plain to-the-end (header b) (header-shrinks b) (t ∷ ts)) ∙ e) in
     on (c .tree) (c .left) (c .one) (c .then-on)
   where
-    on : (h : Header) (us : List Token) → header b (t ∷ ts) ≡ ok h us → onward (follow to-the-end us) us (λ vs. mapped (λ xs. h ∷ xs) (row plain to-the-end (header b) vs)) (λ vs. ok (h ∷ []) vs) ≡ ok hs [] → Begun b (t ∷ ts) hs
+    on : (h : Header) (us : List Token) → header b (t ∷ ts) ≡ ok h us
+        → onward (follow to-the-end us) us (λ vs. mapped (λ xs. h ∷ xs) (row plain to-the-end (header b) vs)) (λ vs. ok (h ∷ []) vs) ≡ ok hs []
+        → Begun b (t ∷ ts) hs
     on h [] p k = record { head = h; others = []; left = []; is = sym (ok-tree k); read = p; more = refl }
     on h (u ∷ us) p k =
         let m = mapped-ok (λ (xs : List Header). h ∷ xs) (row plain to-the-end (header b) (u ∷ us)) k in

@@ -1,23 +1,19 @@
 -- Flat scans over a table: the tokens up to and from a terminal, the names among tokens and their repeats, one token at a time.
 -- The tokens between two places first, then `upto` and `fromSymbol`, then `those`, `isAmong`, `repeatsAfter` and `first` over `++`.
 use mathlib.Core.Path.{_≡_, refl, sym, ap, _∙_}
-use mathlib.Core.Bool.{Bool, true, false, cond, _&&_, _||_}
+use mathlib.Core.Bool.{Bool, true, false, cond}
 use mathlib.Core.List.{List, [], _∷_, _++_, map, append-assoc, append-nil}
-use mathlib.Core.Option.{Option, some}
-use mathlib.Core.Option.{none as nothing}
 use Prim.Native.Nat.{ℕ, zero, suc, _+_, _-_, _<_, _≤_}
 use native.Mathlib.Omega.{arith}
 use native.Mathlib.Nat.{add-zero}
 use borrow.Author.Tests.{eq-eqb, ne-eqb}
-use Rattle.lexis.specs.Words.{sameBytes}
 use Rattle.lexis.specs.Lexer.{Token}
-use Rattle.lexis.specs.Symbol.{symOf, aName}
+use Rattle.lexis.specs.Symbol.{symOf}
 use Rattle.syntax.specs.Table.{tokenAt, tokensFrom, toks}
 use Rattle.syntax.specs.Inner.{lookahead}
 use Rattle.syntax.proofs.Table.{toks-none, toks-more}
-use Rattle.lists.specs.Fault.{Fault, fault, faults, starts, earlier, first}
-use Rattle.lists.specs.ListRules.{over}
-use Rattle.lists.specs.Names.{those, isAmong, repeatsAfter, repeats}
+use Rattle.lists.specs.Fault.{fault, faults, starts, earlier, first}
+use Rattle.lists.specs.Names.{those, isAmong, repeatsAfter}
 use Rattle.lists.specs.Lists.{isA, upto}
 use Rattle.lists.specs.Scans.{fromSymbol}
 use Rattle.lists.proofs.First.{first-append}
@@ -113,7 +109,9 @@ module _ (text table : List ℕ) (n at s : ℕ) where
         ∙ ap (λ (x : List Token). toks text table i at ++ upto s x) (toks-more text table n i h)
         ∙ ap (λ (x : List Token). toks text table i at ++ x) (upto-at s (tokenAt text table i) (toks text table n (i + 1)) e)
         ∙ append-nil (toks text table i at));
-    after = toks-more text table n i h ∙ sym (c .ahead ∙ ap (fromSymbol s) (toks-more text table n i h) ∙ from-at s (tokenAt text table i) (toks text table n (i + 1)) e);
+    after =
+        toks-more text table n i h
+        ∙ sym (c .ahead ∙ ap (fromSymbol s) (toks-more text table n i h) ∙ from-at s (tokenAt text table i) (toks text table n (i + 1)) e);
   }
 
   pub scan-out : (i : ℕ) → Scanned i → n ≤ i → Stopped i
@@ -123,53 +121,6 @@ module _ (text table : List ℕ) (n at s : ℕ) where
     after = toks-none text table n i h ∙ sym (c .ahead ∙ ap (fromSymbol s) (toks-none text table n i h));
   }
 
--- ---- the first token beyond a size
-
-abbrev pub beyond : ℕ → ℕ → List Token → Option Fault
-beyond s size ts = first (over size (starts (those (isA s) ts)))
-
--- a scan for s passes over none of the tokens s
-those-from : (s : ℕ) (ts : List Token) → those (isA s) ts ≡ those (isA s) (fromSymbol s ts)
-unfolding those fromSymbol
-those-from s [] = refl
-those-from s (t ∷ ts) = go (isA s t) refl (those-from s ts)
-  where
-    go : (b : Bool) → isA s t ≡ b → those (isA s) ts ≡ those (isA s) (fromSymbol s ts) → cond b (t ∷ those (isA s) ts) (those (isA s) ts) ≡ those (isA s) (cond b (t ∷ ts) (fromSymbol s ts))
-    go true e r = simp e
-    go false e r = r
-
-module _ (text table : List ℕ) (n s : ℕ) where
-  -- a scan from place i has come to place j
-  module _ (i j size : ℕ) (h : toks text table n j ≡ fromSymbol s (toks text table n i)) where
-    pub beyond-from : beyond s size (toks text table n i) ≡ beyond s size (toks text table n j)
-    beyond-from = ap (λ (x : List Token). first (over size (starts x))) (those-from s (toks text table n i)) ∙ ap (beyond s size) (sym h)
-
-    -- it stands at a token s
-    pub stands-at : j < n → isA s (tokenAt text table j) ≡ true
-    stands-at l = from-is s (toks text table n i) (tokenAt text table j) (toks text table n (j + 1)) (sym h ∙ toks-more text table n j l)
-
-  module _ (j : ℕ) (l : j < n) (here : isA s (tokenAt text table j) ≡ true) where
-    those-here : those (isA s) (toks text table n j) ≡ tokenAt text table j ∷ those (isA s) (toks text table n (j + 1))
-    unfolding those
-    those-here = ap (those (isA s)) (toks-more text table n j l) ∙ simp here
-
-    pub beyond-here : (size : ℕ) → size ≡ 0 → beyond s size (toks text table n j) ≡ some (fault 12 (tokenAt text table j .start))
-    unfolding first
-    beyond-here size z = rw (those-here, z)
-
-    pub beyond-next : (size : ℕ) → (size ≡ 0 → ⊥) → beyond s size (toks text table n j) ≡ beyond s (size - 1) (toks text table n (j + 1))
-    beyond-next size z =
-        let e : size ≡ suc (size - 1) = omega arith in
-        ap (λ (x : List Token). first (over size (starts x))) those-here ∙ ap (λ (k : ℕ). first (over k (starts (tokenAt text table j ∷ those (isA s) (toks text table n (j + 1)))))) e
-
-  pub beyond-none : (j size : ℕ) → n ≤ j → beyond s size (toks text table n j) ≡ nothing
-  unfolding first those
-  beyond-none j size h = ap (beyond s size) (toks-none text table n j h) ∙ empty size
-    where
-      empty : (k : ℕ) → beyond s k [] ≡ nothing
-      empty zero = refl
-      empty (suc k) = refl
-
 -- ---- names and their repeats
 
 pub those-append : (f : Token → Bool) (ts us : List Token) → those f (ts ++ us) ≡ those f ts ++ those f us
@@ -177,7 +128,8 @@ unfolding those
 those-append f [] us = refl
 those-append f (t ∷ ts) us = go (f t) (those-append f ts us)
   where
-    go : (b : Bool) → those f (ts ++ us) ≡ those f ts ++ those f us → cond b (t ∷ those f (ts ++ us)) (those f (ts ++ us)) ≡ cond b (t ∷ those f ts) (those f ts) ++ those f us
+    go : (b : Bool) → those f (ts ++ us) ≡ those f ts ++ those f us
+        → cond b (t ∷ those f (ts ++ us)) (those f (ts ++ us)) ≡ cond b (t ∷ those f ts) (those f ts) ++ those f us
     go true e = ap (λ (x : List Token). t ∷ x) e
     go false e = e
 
@@ -185,7 +137,8 @@ pub repeats-append : (ss ts us : List Token) → repeatsAfter ss (ts ++ us) ≡ 
 unfolding repeatsAfter
 repeats-append ss [] us = simp append-nil
 repeats-append ss (t ∷ ts) us =
-    go (isAmong ss t) (repeats-append (ss ++ (t ∷ [])) ts us ∙ ap (λ (x : List Token). repeatsAfter (ss ++ (t ∷ [])) ts ++ repeatsAfter x us) (append-assoc ss (t ∷ []) ts))
+    go (isAmong ss t)
+    (repeats-append (ss ++ (t ∷ [])) ts us ∙ ap (λ (x : List Token). repeatsAfter (ss ++ (t ∷ [])) ts ++ repeatsAfter x us) (append-assoc ss (t ∷ []) ts))
   where
     R : List Token
     R = repeatsAfter (ss ++ (t ∷ [])) (ts ++ us)
@@ -205,84 +158,3 @@ first-at c ts us =
     ap (λ (x : List ℕ). first (faults c x)) (map-append (λ (t : Token). t .start) ts us)
     ∙ ap first (map-append (fault c) (starts ts) (starts us))
     ∙ first-append (faults c (starts ts)) (faults c (starts us))
-
--- One token more of a scan for repeats.
-abbrev pub repeatsIn : List Token → List Token → Option Fault
-repeatsIn ss ts = first (faults 13 (starts (repeatsAfter ss ts)))
-
-pub repeats-step : (f : Token → Bool) (ss : List Token) (t : Token) (us : List Token)
-    → repeatsIn (those f ss) (those f (t ∷ us)) ≡ earlier (repeatsIn (those f ss) (those f (t ∷ []))) (repeatsIn (those f (ss ++ (t ∷ []))) (those f us))
-repeats-step f ss t us =
-    let a = those f ss in
-    let b = those f (t ∷ []) in
-    let c = those f us in
-    ap (λ (x : List Token). repeatsIn a x) (those-append f (t ∷ []) us)
-    ∙ ap (λ (x : List Token). first (faults 13 (starts x))) (repeats-append a b c)
-    ∙ first-at 13 (repeatsAfter a b) (repeatsAfter (a ++ b) c)
-    ∙ ap (λ (x : List Token). earlier (repeatsIn a b) (repeatsIn x c)) (sym (those-append f ss (t ∷ [])))
-
--- ---- a scan for a name
-
-among-step : (f : Token → Bool) (s : Token) (ss : List Token) (t : Token) → isAmong (those f (s ∷ ss)) t ≡ ((f s && sameBytes (s .bytes) (t .bytes)) || isAmong (those f ss) t)
-unfolding those isAmong
-among-step f s ss t = go (f s)
-  where
-    go : (b : Bool) → isAmong (cond b (s ∷ those f ss) (those f ss)) t ≡ ((b && sameBytes (s .bytes) (t .bytes)) || isAmong (those f ss) t)
-    go true = refl
-    go false = refl
-
-module _ (text table : List ℕ) (to : ℕ) (t : Token) where
-  abbrev pub amongFrom : ℕ → Bool
-  amongFrom j = isAmong (those (isA aName) (toks text table to j)) t
-
-  abbrev pub isLike : ℕ → Bool
-  isLike j = (isA aName) (tokenAt text table j) && sameBytes (tokenAt text table j .bytes) (t .bytes)
-
-  among-next : (j : ℕ) → j < to → amongFrom j ≡ (isLike j || amongFrom (j + 1))
-  among-next j h = ap (λ (x : List Token). isAmong (those (isA aName) x) t) (toks-more text table to j h) ∙ among-step (isA aName) (tokenAt text table j) (toks text table to (j + 1)) t
-
-  pub found-here : (j : ℕ) → j < to → isLike j ≡ true → amongFrom j ≡ true
-  found-here j h e = among-next j h ∙ simp e
-
-  pub found-later : (j : ℕ) → j < to → isLike j ≡ false → amongFrom j ≡ amongFrom (j + 1)
-  found-later j h e = among-next j h ∙ simp e
-
-  pub not-found : (j : ℕ) → to ≤ j → amongFrom j ≡ false
-  unfolding those isAmong
-  not-found j h = simp (toks-none text table to j h)
-
--- ---- a scan for repeats
-
-pub repeat-other : (ss : List Token) (t : Token) → (isA aName) t ≡ false → repeatsIn ss (those (isA aName) (t ∷ [])) ≡ nothing
-unfolding those repeatsAfter first
-repeat-other ss t h = simp h
-
-pub repeat-again : (ss : List Token) (t : Token) → (isA aName) t ≡ true → isAmong ss t ≡ true → repeatsIn ss (those (isA aName) (t ∷ [])) ≡ some (fault 13 (t .start))
-unfolding those repeatsAfter first
-repeat-again ss t h k = simp (h, k)
-
-pub repeat-new : (ss : List Token) (t : Token) → (isA aName) t ≡ true → isAmong ss t ≡ false → repeatsIn ss (those (isA aName) (t ∷ [])) ≡ nothing
-unfolding those repeatsAfter first
-repeat-new ss t h k = simp (h, k)
-
-module _ (text table : List ℕ) (from to : ℕ) where
-  -- what is left of the scan at place i
-  abbrev pub repeatsFrom : ℕ → Option Fault
-  repeatsFrom i = repeatsIn (those (isA aName) (toks text table i from)) (those (isA aName) (toks text table to i))
-
-  abbrev pub repeatHere : ℕ → Option Fault
-  repeatHere i = repeatsIn (those (isA aName) (toks text table i from)) (those (isA aName) (tokenAt text table i ∷ []))
-
-  pub scan-start : repeatsIn [] (those (isA aName) (toks text table to from)) ≡ repeatsFrom from
-  unfolding those
-  scan-start = simp (toks-none text table from from (omega arith))
-
-  pub scan-next : (i : ℕ) → from ≤ i → i < to → repeatsFrom i ≡ earlier (repeatHere i) (repeatsFrom (i + 1))
-  scan-next i h k =
-      ap (λ (x : List Token). repeatsIn (those (isA aName) (toks text table i from)) (those (isA aName) x)) (toks-more text table to i k)
-      ∙ repeats-step (isA aName) (toks text table i from) (tokenAt text table i) (toks text table to (i + 1))
-      ∙ ap (λ (x : List Token). earlier (repeatHere i) (repeatsIn (those (isA aName) x) (those (isA aName) (toks text table to (i + 1))))) (sym (toks-last text table from i h))
-
-  pub scan-end : (i : ℕ) → to ≤ i → repeatsFrom i ≡ nothing
-  unfolding those repeatsAfter first
-  scan-end i h = simp (toks-none text table to i h)

@@ -112,7 +112,8 @@ module _ (text table before : List ℕ) (n : ℕ) where
     walk-next {work} {k} {r} m e w = record {
       words = w .words ++ ((at + 1) ∷ []);
       stored =
-          ap₂ (λ (l : List ℕ) (i : ℕ). set l i (at + 1)) (w .stored) (sym (w .count) ∙ sym (zero-add (length (w .words)))) ∙ sets-snoc before 0 (w .words) (at + 1);
+          ap₂ (λ (l : List ℕ) (i : ℕ). set l i (at + 1)) (w .stored) (sym (w .count) ∙ sym (zero-add (length (w .words))))
+          ∙ sets-snoc before 0 (w .words) (at + 1);
       count = snoc-length (w .words) (at + 1) ∙ ap (λ (i : ℕ). i + 1) (w .count);
       places = places-snoc n (w .words) (at + 1) m (omega arith) (w .places);
       heads = λ b hs o.

@@ -5,11 +5,13 @@ pub mod First
 pub mod Acceptance
 pub mod Guards
 pub mod Members
--- Fitting: numbers at extent, trees, the tokens of types.
+-- Fitting: numbers at extent, leaves, trees, the numbers and the tokens of types.
 pub mod Extents
+pub mod Leaves
 pub mod Fits
-pub mod TypeTokens
+pub mod TypeCodes
 pub mod Phrases
+pub mod TypeTokens
 pub mod Answers
 pub mod Matching
 -- Names: parts of a table, rules of single names.
@@ -17,6 +19,7 @@ pub mod Parts
 pub mod Rules
 pub mod NameScans
 pub mod Bests
+pub mod Masks
 -- Operation lists: flat scans, headers, the directory, the stages.
 pub mod HeaderScans
 pub mod Passes
@@ -24,10 +27,17 @@ pub mod HeaderParses
 pub mod HeaderLayout
 pub mod Defaults
 pub mod ListFaults
+pub mod RowFaults
+pub mod NameMarks
+pub mod Records
+pub mod RowParses
+pub mod GivenDefaults
+pub mod RowWalks
+pub mod ResultCodes
+pub mod HeaderReads
 pub mod Faultless
 pub mod Own
 pub mod Directories
-pub mod Rulings
 pub mod HeaderWalks
 pub mod ListStages
 pub mod Clearing

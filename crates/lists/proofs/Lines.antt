@@ -46,7 +46,8 @@ pub each-map : {A B : Type 0} (P : B → Type 0) (f : A → B) (xs : List A) →
 each-map P f [] h = tt
 each-map P f (x ∷ xs) h = (h .0, each-map P f xs (h .1))
 
-pub each-flat : {A B : Type 0} (Q : A → Type 0) (P : B → Type 0) (f : A → List B) → ((a : A) → Q a → Each P (f a)) → (xs : List A) → Each Q xs → Each P (flatMap f xs)
+pub each-flat : {A B : Type 0} (Q : A → Type 0) (P : B → Type 0) (f : A → List B) → ((a : A) → Q a → Each P (f a)) → (xs : List A) → Each Q xs
+    → Each P (flatMap f xs)
 unfolding flatMap
 each-flat Q P f h [] g = tt
 each-flat Q P f h (x ∷ xs) g = each-append P (f x) (flatMap f xs) (h x (g .0)) (each-flat Q P f h xs (g .1))
@@ -79,7 +80,8 @@ unfolding repeatsAfter
 each-repeats P seen [] h = tt
 each-repeats P seen (t ∷ ts) h = go (isAmong seen t) (each-repeats P (seen ++ (t ∷ [])) ts (h .1))
   where
-    go : (b : Bool) → Each P (repeatsAfter (seen ++ (t ∷ [])) ts) → Each P (cond b (t ∷ repeatsAfter (seen ++ (t ∷ [])) ts) (repeatsAfter (seen ++ (t ∷ [])) ts))
+    go : (b : Bool) → Each P (repeatsAfter (seen ++ (t ∷ [])) ts)
+        → Each P (cond b (t ∷ repeatsAfter (seen ++ (t ∷ [])) ts) (repeatsAfter (seen ++ (t ∷ [])) ts))
     go true r = (h .0, r)
     go false r = r
 
@@ -136,14 +138,17 @@ module _ (At : ℕ → Type 0) where
       let ps = starts (paramNames (h .params)) in
       let rs = starts (map (λ (r : Result). r .name) (h .results)) in
       each-append (OnLine ListCode At) (over maxParameters ps) (over maxResults rs)
-      (over-lined ListCode At maxParameters ps list-over-size (each-map At (λ (t : Token). t .start) (paramNames (h .params)) (param-places (h .params) (g .params))))
-      (over-lined ListCode At maxResults rs list-over-size (each-map At (λ (t : Token). t .start) (map (λ (r : Result). r .name) (h .results)) (result-places h g)))
+      (over-lined ListCode At maxParameters ps list-over-size
+      (each-map At (λ (t : Token). t .start) (paramNames (h .params)) (param-places (h .params) (g .params))))
+      (over-lined ListCode At maxResults rs list-over-size
+      (each-map At (λ (t : Token). t .start) (map (λ (r : Result). r .name) (h .results)) (result-places h g)))
 
   repeats-lined : (h : Header) → Headed h → InList (repeatsOf h)
   repeats-lined h g =
       starts-lined ListCode At Code.repeatedName (repeats (headerNames h)) list-repeated-name
       (each-repeats (AtToken ListCode At) [] (headerNames h)
-      (each-append (AtToken ListCode At) (paramNames (h .params)) (map (λ (r : Result). r .name) (h .results)) (param-places (h .params) (g .params)) (result-places h g)))
+      (each-append (AtToken ListCode At) (paramNames (h .params)) (map (λ (r : Result). r .name) (h .results)) (param-places (h .params) (g .params))
+      (result-places h g)))
 
   default-lined : (p : Param) → HasParam (AtToken ListCode At) p → InList (badDefault (p .ty) (p .default))
   default-lined p g = go (p .default) (g .default)
@@ -166,8 +171,12 @@ module _ (At : ℕ → Type 0) where
       each-append O (a ++ c) ((b ++ d) ++ (e ++ []))
       (each-append O a c (over-lined ListCode At maxOperations ks list-over-size (keywords hs g)) (each-flat Headed O countsOf counts-lined hs g))
       (each-append O (b ++ d) (e ++ [])
-      (each-append O b d (starts-lined ListCode At Code.repeatedName (repeats ns) list-repeated-name (each-repeats (AtToken ListCode At) [] ns (names hs g))) (each-flat Headed O repeatsOf repeats-lined hs g))
-      (each-append O e [] (each-flat Headed O misfitsOf (λ h k. each-flat (HasParam (AtToken ListCode At)) O (λ (p : Param). badDefault (p .ty) (p .default)) default-lined (h .params) (k .params)) hs g) tt))
+      (each-append O b d (starts-lined ListCode At Code.repeatedName (repeats ns) list-repeated-name (each-repeats (AtToken ListCode At) [] ns (names hs g)))
+      (each-flat Headed O repeatsOf repeats-lined hs g))
+      (each-append O e []
+      (each-flat Headed O misfitsOf
+      (λ h k. each-flat (HasParam (AtToken ListCode At)) O (λ (p : Param). badDefault (p .ty) (p .default)) default-lined (h .params) (k .params)) hs g)
+      tt))
     where
       keywords : (gs : List Header) → Each Headed gs → Each At (map (λ (h : Header). h .keyword .start) gs)
       keywords [] k = tt

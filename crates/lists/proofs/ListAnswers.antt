@@ -22,12 +22,14 @@ module _ (list work : List ℕ) where
   unfolding declarationsAnswer declared
   refused-room e a = (rw e a, kept work refl a)
 
-  pub refused-list : {r : Answer} → leb workWords (length work) ≡ true → leb (length list) maxText ≡ false → r ≡ answer Code.longText 1 maxText 0 → Ensured r work
+  pub refused-list : {r : Answer} → leb workWords (length work) ≡ true → leb (length list) maxText ≡ false → r ≡ answer Code.longText 1 maxText 0
+      → Ensured r work
   unfolding declarationsAnswer declared
   refused-list e f a = (rw (e, f) a, kept work refl a)
 
   -- the stages after the guards, then the work area is cleared
-  pub ended : {r : Answer} {work' : List ℕ} {n : ℕ} → leb workWords (length work) ≡ true → leb (length list) maxText ≡ true → r ≡ stageAnswer (listStages list) length
+  pub ended : {r : Answer} {work' : List ℕ} {n : ℕ} → leb workWords (length work) ≡ true → leb (length list) maxText ≡ true
+      → r ≡ stageAnswer (listStages list) length
       → work' ≡ replicate n 0 → n ≡ length work → Ensured r work'
   unfolding declarationsAnswer declared
   ended {n = n} e f a z l = (rw (e, f) a, z ∙ cleared-after (listStages list) length (list-codes list) n work l a)

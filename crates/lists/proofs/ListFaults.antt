@@ -39,7 +39,11 @@ misfitsOf h = defaultFaults (h .params)
 
 -- a header's own faults, one kind after the other
 pub own-parts : (h : Header) → first (headerFaults h)
-    ≡ earlier (earlier (earlier (first (over maxParameters (starts (paramNames (h .params))))) (first (over maxResults (starts (map (λ (r : Result). r .name) (h .results)))))) (first (faults 13 (starts (repeats (headerNames h)))))) (first (defaultFaults (h .params)))
+    ≡ earlier
+    (earlier
+    (earlier (first (over maxParameters (starts (paramNames (h .params))))) (first (over maxResults (starts (map (λ (r : Result). r .name) (h .results))))))
+    (first (faults 13 (starts (repeats (headerNames h))))))
+    (first (defaultFaults (h .params)))
 unfolding headerFaults flatten first
 own-parts h =
     let a = over maxParameters (starts (paramNames (h .params))) in
@@ -47,7 +51,8 @@ own-parts h =
     let c = faults 13 (starts (repeats (headerNames h))) in
     let d = defaultFaults (h .params) in
     first-append a (b ++ (c ++ (d ++ [])))
-    ∙ ap (earlier (first a)) (first-append b (c ++ (d ++ [])) ∙ ap (earlier (first b)) (first-append c (d ++ []) ∙ ap (λ (x : List Fault). earlier (first c) (first x)) (append-nil d)))
+    ∙ ap (earlier (first a))
+    (first-append b (c ++ (d ++ [])) ∙ ap (earlier (first b)) (first-append c (d ++ []) ∙ ap (λ (x : List Fault). earlier (first c) (first x)) (append-nil d)))
     ∙ sym (earlier-assoc (first a) (first b) (earlier (first c) (first d)))
     ∙ sym (earlier-assoc (earlier (first a) (first b)) (first c) (first d))
 
@@ -58,7 +63,8 @@ own-flat h =
     let b = over maxResults (starts (map (λ (r : Result). r .name) (h .results))) in
     ap (λ (x : List Fault). a ++ (b ++ (repeatsOf h ++ x))) (append-nil (misfitsOf h)) ∙ sym (append-assoc a b (repeatsOf h ++ misfitsOf h))
 
-own-all : (hs : List Header) → first (flatMap headerFaults hs) ≡ earlier (first (flatMap countsOf hs)) (earlier (first (flatMap repeatsOf hs)) (first (flatMap misfitsOf hs)))
+own-all : (hs : List Header)
+    → first (flatMap headerFaults hs) ≡ earlier (first (flatMap countsOf hs)) (earlier (first (flatMap repeatsOf hs)) (first (flatMap misfitsOf hs)))
 unfolding flatMap
 own-all hs =
     ap (λ (xs : List Fault). first xs) (same hs)
@@ -71,7 +77,8 @@ own-all hs =
 
 -- the first fault of a list, as the code meets them
 pub list-parts : (hs : List Header) → first (listFaults hs)
-    ≡ earlier (first (over maxOperations (map (λ (h : Header). h .keyword .start) hs))) (earlier (first (faults 13 (starts (repeats (map (λ (h : Header). h .name) hs))))) (first (flatMap headerFaults hs)))
+    ≡ earlier (first (over maxOperations (map (λ (h : Header). h .keyword .start) hs)))
+    (earlier (first (faults 13 (starts (repeats (map (λ (h : Header). h .name) hs))))) (first (flatMap headerFaults hs)))
 unfolding listFaults listCounts listRepeats badDefaults flatten
 list-parts hs =
     let a = over maxOperations (map (λ (h : Header). h .keyword .start) hs) in

@@ -1,19 +1,20 @@
--- From the bytes of an operation list to its answer: what its tokens' table holds, what the rules come to, what is left in
--- its work area. Relies on `lexis` and `syntax` for the table and the faults of bytes and syntax, on `Front` for the table in front of a
--- work area.
+-- From the bytes of an operation list to its answer: what its tokens' table holds, what the rules come to, what is left. Relies on `lexis` and `syntax` for
+-- the table and the faults of bytes and syntax, on `RowFaults` and `NameMarks` for what the walk over the headers comes to.
 use mathlib.Core.Path.{_≡_, refl, sym, ap, ap₂, subst, _∙_}
 use mathlib.Core.Bool.{true}
-use mathlib.Core.List.{List, [], _++_, append-assoc}
-use mathlib.Core.Option.{some}
+use mathlib.Core.List.{List, [], _++_}
+use mathlib.Core.Option.{Option, some}
 use mathlib.Core.Option.{none as nothing}
-use Prim.Native.Nat.{ℕ, suc, _+_, _-_, _*_, _≤_}
+use Prim.Native.Nat.{ℕ, suc, _+_, _*_, _≤_, min}
 use native.Mathlib.Nat.{zero-add}
 use native.Mathlib.Omega.{arith}
-use lib.ListN.{length, take, drop}
+use lib.ListN.{length, take, drop, replicate, length-replicate}
 use lib.Seq.{sets, sets-eq, length-sets, take-at}
 use borrow.Author.Tests.{ne-eqb}
-use Rattle.lexis.specs.Sizes.{maxTokens, recordWords, firstMark, workWords, maxBrackets}
-use Rattle.lexis.specs.Lexer.{Token, Lexed, accepted, refused, lex}
+use Rattle.lexis.specs.Sizes.{maxText, maxTokens, recordWords, firstMark, workWords, maxBrackets}
+use Rattle.lexis.specs.Lexer.{Token, Lexed, accepted, refused, lex, Placed}
+use Rattle.lexis.specs.Lexer.Placed.{none, next}
+use Rattle.lexis.proofs.Theorems.{placed}
 use Rattle.lexis.specs.Answer.{answer}
 use Rattle.lexis.specs.Symbol.{symbols}
 use Rattle.lexis.specs.Work.{Recorded, Room}
@@ -28,22 +29,31 @@ use Rattle.syntax.specs.Table.{toks, placeOf, parsed}
 use Rattle.syntax.specs.Read.{agreed, readAfter, readOf}
 use Rattle.syntax.specs.declared.Syntax.the-variants as S
 use Rattle.syntax.proofs.Reading.{got}
+use Rattle.syntax.proofs.Table.{toks-length}
 use Rattle.syntax.proofs.Theorems.{list-all-read}
-use Rattle.lists.specs.Fault.{first}
-use Rattle.lists.specs.Best.{faultOf, meant}
+use Rattle.index.specs.Indexed.{Walkable}
+use Rattle.index.proofs.Theorems.{empty-walkable}
+use Rattle.lists.specs.Fault.{Fault, earlier, first}
+use Rattle.lists.specs.Best.{clean, faultOf, meant}
 use Rattle.lists.specs.ListRules.{listFaults}
-use Rattle.lists.specs.Lists.{Heads, no-head, a-head, Directory}
+use Rattle.lists.specs.Lists.{Heads, no-head, a-head, NamePlaces, Directory}
 use Rattle.lists.specs.Answer.{stop, andThen, bytesStage, syntaxStage, rulesStage, listStages}
-use Rattle.lists.specs.Stages.{ListRead, ListPassed, ListDone}
-use Rattle.lists.specs.declared.best.Best.{Best}
+use Rattle.lists.specs.Headers.{Roomy, Ready, emptyRow, rowFaults, ofHeaders, Numbered, HeadersRead, OfHeaders}
+use Rattle.lists.specs.Stages.{ListRead, Served, ListPassed, ListDone}
+use Rattle.lists.specs.declared.headers.Ruled.{Ruled}
 use Rattle.lists.specs.declared.list.Listed.{Listed}
 use Rattle.lists.specs.declared.list.Listed.the-variants.{Passed, Stopped}
+use Rattle.lists.proofs.Bests.{clean-none}
+use Rattle.lists.proofs.Faultless.{own-clean, few-operations}
+use Rattle.lists.proofs.RowFaults.{list-faults}
+use Rattle.lists.proofs.NameMarks.{names-start}
 
 -- ---- bytes and syntax
 
 -- what reading n tokens says of the list
 module _ (text before after : List ℕ) (n : ℕ) (small : n ≤ maxTokens) (large : workWords ≤ length before) where
-  read-by : (l : Lexed) → lex text ≡ l → C.Tokens n ≡ readAfter S.List (length text) l → Recorded true l before after → n * recordWords ≤ length before → ListRead text after n
+  read-by : (l : Lexed) → lex text ≡ l → C.Tokens n ≡ readAfter S.List (length text) l → Recorded true l before after → n * recordWords ≤ length before
+      → ListRead text after n
   unfolding listStages
   read-by (refused c p) e h w r = let z : _≡_ {A = ℕ} 0 1 = cc in absurd (omega arith)
   read-by (accepted ts) e h w r = go (parseList ts) refl h
@@ -52,7 +62,8 @@ module _ (text before after : List ℕ) (n : ℕ) (small : n ≤ maxTokens) (lar
       go (bad c us) q k = let z : _≡_ {A = ℕ} 0 1 = cc in absurd (omega arith)
       go (ok hs us) q k =
           let m : n ≡ length ts = cc in
-          let g = got text before after (C.Tokens n) n (ap C.Tokens (m ∙ sym (zero-add (length ts))) ∙ ap LA.counted (sym e)) (subst (λ (l : Lexed). Recorded true l before after) (sym e) w) (small, r) large refl in
+          let g = got text before after (C.Tokens n) n (ap C.Tokens (m ∙ sym (zero-add (length ts))) ∙ ap LA.counted (sym e))
+          (subst (λ (l : Lexed). Recorded true l before after) (sym e) w) (small, r) large refl in
           let same : g .tokens ≡ ts = let y = sym (g .is) ∙ e in cc in
           let d : toks text after n 0 ≡ ts = g .decoded ∙ same in
           let none : us ≡ [] = list-all-read maxBrackets ts hs us q in
@@ -62,11 +73,13 @@ module _ (text before after : List ℕ) (n : ℕ) (small : n ≤ maxTokens) (lar
             table = g .table;
             parsed = ap parseList d ∙ q ∙ ap (λ (x : List Token). ok hs x) none;
             stages =
-                ap (λ (l : Lexed). andThen (bytesStage 1 l) (λ xs. andThen (syntaxStage 1 text (parseList xs)) (λ ys. rulesStage 1 ys (first (listFaults ys))))) e
+                ap (λ (l : Lexed). andThen (bytesStage 1 l) (λ xs. andThen (syntaxStage 1 text (parseList xs))
+                (λ ys. rulesStage 1 ys (first (listFaults ys))))) e
                 ∙ ap (λ (x : Parse (List Header)). andThen (syntaxStage 1 text x) (λ ys. rulesStage 1 ys (first (listFaults ys)))) q;
           }
 
-  pub read-list : {x : Counted} → x ≡ readOf S.List text → x ≡ C.Tokens n → Recorded true (lex text) before after → Room x (length before) → ListRead text after n
+  pub read-list : {x : Counted} → x ≡ readOf S.List text → x ≡ C.Tokens n → Recorded true (lex text) before after → Room x (length before)
+      → ListRead text after n
   read-list {x} h e w r = read-by (lex text) refl (sym e ∙ h) w (subst (λ (y : Counted). Room y (length before)) e r .1)
 
 -- a fault of the bytes or the syntax stops the stages
@@ -79,7 +92,8 @@ read-stops text {c} {p} h e = go (lex text) (sym e ∙ h)
     parses ts (ok hs us) k = let z : _≡_ {A = ℕ} 0 1 = cc in absurd (omega arith)
     parses ts (bad d us) k = let a : d ≡ c = cc in let b : placeOf (length text) us ≡ p = cc in ap₂ (λ (x y : ℕ). stop (answer x 1 y 0)) a b
 
-    go : (l : Lexed) → C.Fault c p ≡ readAfter S.List (length text) l → andThen (bytesStage 1 l) (λ xs. andThen (syntaxStage 1 text (parseList xs)) (λ ys. rulesStage 1 ys (first (listFaults ys)))) ≡ stop (answer c 1 p 0)
+    go : (l : Lexed) → C.Fault c p ≡ readAfter S.List (length text) l → andThen (bytesStage 1 l)
+        (λ xs. andThen (syntaxStage 1 text (parseList xs)) (λ ys. rulesStage 1 ys (first (listFaults ys)))) ≡ stop (answer c 1 p 0)
     go (refused d q) k = let a : d ≡ c = cc in let b : q ≡ p = cc in ap₂ (λ (x y : ℕ). stop (answer x 1 y 0)) a b
     go (accepted ts) k = parses ts (parseList ts) k
 
@@ -91,61 +105,126 @@ written-length (refused c p) before after h = h
 
 -- ---- rules
 
+module _ {text work index index' words words' : List ℕ} {n : ℕ} (list : ListRead text work n) (served : Served index words n) (ruled : Ruled)
+    (all : OfHeaders text work index index' words words' n 0 (emptyRow clean 0 0 0) ruled)
+  where
+    start : Numbered text work index 0 0 []
+    start = names-start text work index (length index) (served .empty)
+
+    read : HeadersRead text work index index' words words' n 0 (emptyRow clean 0 0 0) ruled (list .headers)
+    read = all (list .headers) (list .parsed)
+
+    found-is : meant (ruled .best) ≡ first (listFaults (list .headers))
+    found-is =
+        read .faulted [] start refl
+        ∙ ap (λ (x : Option Fault). earlier x (first (rowFaults ofHeaders [] [] (list .headers)))) clean-none
+        ∙ list-faults (list .headers)
+
+    pub rules-pass : Roomy words' n → Walkable index' n n → n ≤ maxTokens → ruled .count ≤ n → ruled .best .code ≡ 0
+        → ListPassed text work index' words' n (ruled .count)
+    unfolding meant
+    rules-pass roomy walk small few z =
+        let m : nothing ≡ first (listFaults (list .headers)) = rw z at found-is in
+        let count = read .count in
+        record {
+          headers = list .headers;
+          stages = list .stages ∙ ap (rulesStage 1 (list .headers)) (sym m);
+          count = omega arith;
+          small = small;
+          few = few;
+          lexed = list .lexed;
+          table = list .table;
+          parsed = list .parsed;
+          directory = read .stored (let l = few-operations (list .headers) (sym m) in omega arith) (own-clean (list .headers) (sym m));
+          roomy = roomy;
+          walkable = walk;
+          names = read .names [] start refl;
+        }
+
+    pub rules-stop : (ruled .best .code ≡ 0 → ⊥) → listStages text ≡ stop (answer (ruled .best .code) 1 (ruled .best .at) (ruled .best .detail))
+    unfolding meant
+    rules-stop z =
+        let m : some (faultOf (ruled .best)) ≡ first (listFaults (list .headers)) = rw (ne-eqb (ruled .best .code) 0 z) at found-is in
+        list .stages ∙ ap (rulesStage 1 (list .headers)) (sym m)
+
+-- room for n tokens is room for fewer
+pub served-less : {index words : List ℕ} {m n : ℕ} → n ≤ m → Served index words m → Served index words n
+served-less l s = record {
+  empty = s .empty;
+  room = let r = s .room in omega arith;
+  roomy = record { room = let r = s .roomy .room in omega arith };
+}
+
+-- a text has no more tokens than bytes
+tokens-few : {text : List ℕ} {at : ℕ} {ts : List Token} → Placed text at ts → at + length ts ≤ length text
+tokens-few (none e) = omega arith
+tokens-few (next a b c d e p) = let l = tokens-few p in omega arith
+
+pub list-few : {text work : List ℕ} {n : ℕ} → ListRead text work n → n ≤ length text
+list-few {text} {work} {n} list =
+    let p = tokens-few (placed text (toks text work n 0) (list .lexed)) in
+    let l = toks-length text work n 0 in
+    omega arith
+
+-- zeros for as many tokens as a text may have
+pub served-zeros : (i w m : ℕ) → i ≡ 13312 → w ≡ 3840 → Served (replicate i 0) (replicate w 0) (min m maxTokens)
+served-zeros i w m e f =
+    let a : length {A = ℕ} (replicate i 0) ≡ i = length-replicate i 0 in
+    let b : length {A = ℕ} (replicate w 0) ≡ w = length-replicate w 0 in
+    record {
+      empty = ap (λ (m : ℕ). replicate {A = ℕ} m 0) (sym a);
+      room = omega arith;
+      roomy = record { room = omega arith };
+    }
+
+-- the walk may start
+pub walk-ready : {text work index words : List ℕ} {n : ℕ} → ListRead text work n → length text ≤ maxText → n ≤ maxTokens → Served index words n
+    → Ready text work index n 0 (emptyRow clean 0 0 0)
+walk-ready {index = index} list short small s = record {
+  held = list .table;
+  short = short;
+  small = small;
+  inside = omega arith;
+  few = omega arith;
+  counted = omega arith;
+  numbered = omega arith;
+  names = empty-walkable index (length index) (s .empty) 0 _ (s .room);
+}
+
+-- ---- what the stages came to
+
+pub passed-is : {text work index words : List ℕ} {x : Listed} {n k : ℕ} → ListDone text work index words x → x ≡ Passed n k
+    → ListPassed text work index words n k
+passed-is {text} {work} {index} {words} d e = subst (ListDone text work index words) e d
+
+pub stopped-is : (text work index words : List ℕ) (x : Listed) {r : Answer} → ListDone text work index words x → x ≡ Stopped r → listStages text ≡ stop r
+stopped-is text work index words x d e = subst (ListDone text work index words) e d
+
+-- ---- with the places of names
+
 heads-length : {text table : List ℕ} {n b : ℕ} {qs : List ℕ} {hs : List Header} → Heads text table n b qs hs → length hs ≡ length qs
 heads-length no-head = refl
 heads-length (a-head r e h) = ap suc (heads-length h)
 
-module _ {text table before after : List ℕ} {n k : ℕ} (small : n ≤ maxTokens) (large : maxTokens ≤ length before) (dir : Directory text table before after n k) where
-  cut : after ≡ dir .words ++ drop (0 + length (dir .words)) before
-  cut = let c = dir .count in let f = dir .few in dir .stored ∙ sets-eq (dir .words) before 0 (omega arith)
-
-  pub same-names : take k after ≡ dir .words
-  same-names =
-      ap (λ (m : ℕ). take m after) (sym (dir .count))
-      ∙ ap (take (length (dir .words))) cut
-      ∙ take-at (dir .words) (drop (0 + length (dir .words)) before) (length (dir .words)) refl
-
-  pub part-names : take (k - 0) after ≡ dir .words
-  part-names = let e : k - 0 ≡ k = omega arith in ap (λ (m : ℕ). take m after) e ∙ same-names
-
-  pub same-size : length after ≡ length before
-  same-size = ap (λ (x : List ℕ). length x) (dir .stored) ∙ length-sets before 0 (dir .words)
-
-  module _ (list : ListRead text table n) where
+module _ {text table index words before after : List ℕ} {n k m : ℕ} (list : ListPassed text table index words n k) (large : maxTokens ≤ length before)
+    (dir : Directory text table before after n m)
+  where
     heads-are : Heads text table n maxBrackets (dir .words) (list .headers)
     heads-are = dir .heads maxBrackets (list .headers) (list .parsed)
 
-    module _ (best : Best) (rules : (hs : List Header) → Heads text table n maxBrackets (take (k - 0) after) hs → meant best ≡ first (listFaults hs)) where
-      found-is : meant best ≡ first (listFaults (list .headers))
-      found-is = rules (list .headers) (rw part-names heads-are)
+    size : length (dir .words) ≡ k
+    size = sym (heads-length heads-are) ∙ list .count
 
-      pub rules-pass : best .code ≡ 0 → ListPassed text table after n k
-      unfolding meant
-      rules-pass z =
-          let m : nothing ≡ first (listFaults (list .headers)) = rw z at found-is in
-          record {
-            headers = list .headers;
-            stages = list .stages ∙ ap (rulesStage 1 (list .headers)) (sym m);
-            count = heads-length heads-are ∙ dir .count;
-            small = small;
-            few = dir .few;
-            lexed = list .lexed;
-            table = list .table;
-            parsed = list .parsed;
-            places = rw same-names (dir .places);
-            heads = rw same-names heads-are;
-          }
+    cut : after ≡ dir .words ++ drop (0 + length (dir .words)) before
+    cut = let c = size in let f = list .few in let g = list .small in dir .stored ∙ sets-eq (dir .words) before 0 (omega arith)
 
-      pub rules-stop : (best .code ≡ 0 → ⊥) → listStages text ≡ stop (answer (best .code) 1 (best .at) (best .detail))
-      unfolding meant
-      rules-stop z =
-          let m : some (faultOf best) ≡ first (listFaults (list .headers)) = rw (ne-eqb (best .code) 0 z) at found-is in
-          list .stages ∙ ap (rulesStage 1 (list .headers)) (sym m)
+    same-names : take k after ≡ dir .words
+    same-names =
+        ap (λ (i : ℕ). take i after) (sym size) ∙ ap (take (length (dir .words))) cut
+        ∙ take-at (dir .words) (drop (0 + length (dir .words)) before) (length (dir .words)) refl
 
--- ---- what the stages came to
+    pub names-places : NamePlaces n (take k after)
+    names-places = rw same-names (dir .places)
 
-pub passed-is : {text work names : List ℕ} {x : Listed} {n k : ℕ} → ListDone text work names x → x ≡ Passed n k → ListPassed text work names n k
-passed-is {text} {work} {names} d e = subst (ListDone text work names) e d
-
-pub stopped-is : (text work names : List ℕ) (x : Listed) {r : Answer} → ListDone text work names x → x ≡ Stopped r → listStages text ≡ stop r
-stopped-is text work names x d e = subst (ListDone text work names) e d
+    pub names-heads : Heads text table n maxBrackets (take k after) (list .headers)
+    names-heads = rw same-names heads-are

@@ -2,13 +2,13 @@
 -- items of a tuple up to `=`; a left side of one value is no such tuple, since a tuple type has at least two items.
 -- Assumes nothing.
 use mathlib.Core.Path.{_≡_, refl, sym, ap, subst, _∙_}
-use mathlib.Core.Bool.{Bool, true, false, _&&_}
+use mathlib.Core.Bool.{Bool, true, false, not, _&&_}
 use mathlib.Core.List.{List, [], _∷_}
-use Prim.Native.Nat.{ℕ, _+_}
+use Prim.Native.Nat.{ℕ, _+_, _<_}
 use native.Mathlib.Omega.{arith}
 use lib.Dec.{eqb}
 use lib.ListN.{drop}
-use borrow.Author.Tests.{eq-eqb, ne-eqb}
+use borrow.Author.Tests.{eq-eqb, ne-eqb, eqb-true, eqb-false}
 use Rattle.lexis.specs.Lexer.{Token}
 use Rattle.lexis.specs.Symbol.{symOf, leftRound, rightRound, equal, comma}
 use Rattle.syntax.specs.Tree.{Value, Values, Ty, Tys, Result}
@@ -22,19 +22,20 @@ use Rattle.syntax.specs.Grammar.Separated.{last, next}
 use Rattle.syntax.specs.Grammar.Items.{last-item, next-item}
 use Rattle.syntax.specs.Grammar.IsResult.{a-result}
 use Rattle.syntax.specs.Grammar.IsLeft.{one-pattern, a-bare-tuple}
-use Rattle.syntax.specs.Parser.{value, type}
-use Rattle.syntax.specs.Parser.Parse.{ok}
 use Rattle.syntax.specs.Table.{toks}
 use Rattle.syntax.specs.Inner.{lookahead}
 use Rattle.syntax.proofs.Table.{toks-rest}
 use Rattle.lists.specs.Reading.{readAt, fits, typesOf, resultType}
-use Rattle.lists.specs.declared.fitting.Fit.{Fit}
-use Rattle.lists.specs.declared.fitting.Fit.the-variants.{Yes, No}
-use Rattle.lists.specs.Fitting.{stacked, Several, IsBase, NoPair, Shaped, Columns, fitsEach, Told, isYes, isWhole, OfValue, OfEach, OfLeft, OfWhole}
+use Rattle.lists.specs.declared.types.TypeAt.{TypeAt}
+use Rattle.lists.specs.Types.{kindsOf, pairsOf, typeCode, several, resultCode, OfType}
+use Rattle.lists.specs.Fitting.{stacked, Several, NoPair, Shaped, Columns, fitsEach}
+use Rattle.lists.specs.Fitting.{Fitted, isFit, isWhole, OfItem, BaseOf, OfValue, OfEach, OfLeft, OfWhole}
 use Rattle.lists.specs.Fitting.Several.{two-or-more}
 use Rattle.lists.proofs.Fits.{tuple-fits, each-few, each-more, flat-no}
 use Rattle.lists.proofs.Fits.Flat.{flat-tuple}
-use Rattle.lists.proofs.Phrases.{value-is, type-is, type-ends}
+use Rattle.lists.proofs.TypeTokens.{shape, base-of, read-of}
+use Rattle.lists.proofs.TypeCodes.{code-single}
+use Rattle.lists.proofs.Phrases.{value-is, type-is}
 use Rattle.lists.proofs.Answers.{Seen, seen, look, literal-look, behind, fits-some, round-no-pair, comma-no-pair, toks-lead}
 use Rattle.lists.proofs.Answers.Seen.{a-name-seen, a-literal-seen, an-array-seen, a-tuple-seen}
 
@@ -44,29 +45,39 @@ clash z = omega arith
 -- ---- answers
 
 module _ (text table : List ℕ) (n : ℕ) where
-  yes-told : (p : Bool) (us : List Token) (r : Fit) → Told text table n p us r → isYes r ≡ p
-  yes-told p us (Yes j) h = sym (h .0)
-  yes-told p us No h = sym h
+  -- an answer as a test, and that `=` follows
+  pub fit-told : (p : Bool) (us : List Token) (r : ℕ) → Fitted text table n p us r → isFit r ≡ p
+  fit-told p us r h = go (eqb r 0) refl
+    where
+      go : (x : Bool) → eqb r 0 ≡ x → not x ≡ p
+      go true e = sym (h .misfit (eqb-true r 0 e))
+      go false e = let d = eqb-false r 0 e in sym (h .fit (omega (arith, d)))
 
-  whole-told : (p : Bool) (e : Token) (us : List Token) (r : Fit) → Told text table n p (e ∷ us) r → isWhole text table n r ≡ (p && eqb (symOf e) equal)
-  whole-told p e us (Yes j) h = ap (λ (ts : List Token). eqb (lookahead ts) equal) (sym (h .1)) ∙ ap (λ (q : Bool). q && eqb (symOf e) equal) (sym (h .0))
-  whole-told p e us No h = ap (λ (q : Bool). q && eqb (symOf e) equal) (sym h)
+  whole-told : (p : Bool) (e : Token) (us : List Token) (r : ℕ) → Fitted text table n p (e ∷ us) r → isWhole text table n r ≡ (p && eqb (symOf e) equal)
+  whole-told p e us r h = go (eqb r 0) refl
+    where
+      go : (x : Bool) → eqb r 0 ≡ x → (not x && eqb (lookahead (toks text table n r)) equal) ≡ (p && eqb (symOf e) equal)
+      go true f = ap (λ (q : Bool). q && eqb (symOf e) equal) (sym (h .misfit (eqb-true r 0 f)))
+      go false f =
+          let d = eqb-false r 0 f in
+          let l : 0 < r = omega (arith, d) in
+          ap (λ (ts : List Token). eqb (lookahead ts) equal) (sym (h .ends l)) ∙ ap (λ (q : Bool). q && eqb (symOf e) equal) (sym (h .fit l))
 
 -- a value and a type, as the readers read them
-pub fits-told : (text table : List ℕ) (n i : ℕ) (ttext ttable : List ℕ) (tn t k e : ℕ) (r : Fit)
-    → OfValue text table n i (toks ttext ttable tn t) k r
-    → ((b : ℕ) (u : Ty) (us : List Token) → IsType b (toks ttext ttable tn t) u us → NoPair us → Shaped b (toks ttext ttable tn t) u k × (us ≡ toks ttext ttable tn e))
-    → (m : Leaves) (b : ℕ) (v : Value) (us : List Token) (c : ℕ) (u : Ty) (ws : List Token) → value m b (toks text table n i) ≡ ok v us → type c (toks ttext ttable tn t) ≡ ok u ws → isYes r ≡ fits v u
-fits-told text table n i ttext ttable tn t k e r one shape m b v us c u ws f g =
-    let q = shape c u ws (type-is c (toks ttext ttable tn t) g) (type-ends c (toks ttext ttable tn t) g) .0 in
-    yes-told text table n (fits v (stacked k (q .base))) us r (one m b v us c (q .base) (q .after) (value-is m b (toks text table n i) f) (q .is-base)) ∙ ap (fits v) (sym (q .under))
+pub item-told : (text table : List ℕ) (n i : ℕ) (ts : List Token) (kinds k r : ℕ) → OfValue text table n i ts kinds k r → OfItem text table n i ts kinds k r
+item-told text table n i ts kinds k r one m b v us c u ws f g p q =
+    let s = shape (type-is c ts g) in
+    let w = base-of s p in
+    let e : stacked k (s .base) ≡ u = ap (λ (j : ℕ). stacked j (s .base)) q ∙ sym (s .under) in
+    subst (λ (x : Ty). Fitted text table n (fits v x) us r) e (one m b v us c (s .base) (s .after) (value-is m b (toks text table n i) f) w)
 
 -- ---- left sides
 
 -- a left side: one value and `=`, or a value, a comma and more items up to `=`
 data Sides (b : ℕ) (ts : List Token) : Value → List Token → Type 0 where
   one-side : {v : Value} {e : Token} {us : List Token} → Spells names b ts v (e ∷ us) → symOf e ≡ equal → Sides b ts v us
-  bare-sides : {t c : Token} {v : Value} {vs : Values} {us ws : List Token} → Spells names b ts v (c ∷ us) → symOf c ≡ comma → Items names equal b us vs ws → Sides b ts (tuple t (more v vs)) ws
+  bare-sides : {t c : Token} {v : Value} {vs : Values} {us ws : List Token} → Spells names b ts v (c ∷ us) → symOf c ≡ comma → Items names equal b us vs ws
+      → Sides b ts (tuple t (more v vs)) ws
 
 sides : {b : ℕ} {ts us : List Token} {v : Value} → IsLeft b ts v us → Sides b ts v us
 sides (one-pattern g e) = one-side g e
@@ -105,18 +116,25 @@ module _ (text table : List ℕ) (n i : ℕ) (u : Ty) (w : Bool) (whole : OfWhol
       go (one-side {e = e} g f) = sym y ∙ equal-after e g f
       go (bare-sides {t = t} {v = v} {vs = vs} g f r) = sym (d t (more v vs))
 
-  pub left-each : w ≡ false → (cs : Tys) → u ≡ tupleOf cs → Several cs → (c : ℕ) (ts ws : List Token) (lead : ℕ) → Columns lead c ts cs ws → (r : Fit) → OfEach text table n i equal ts lead r → OfLeft text table n i u (isYes r)
+  pub left-each : w ≡ false → (cs : Tys) → u ≡ tupleOf cs → Several cs → (c : ℕ) (ts ws : List Token) (lead : ℕ) → Columns lead c ts cs ws → (r : ℕ)
+      → OfEach text table n i equal ts lead r → OfLeft text table n i u (isFit r)
   left-each y cs q s c ts ws lead k r one b v us h = go (sides h)
     where
-      go : {v : Value} {us : List Token} → Sides b (toks text table n i) v us → isYes r ≡ fits v u
-      go {us = us} (one-side {v = v} {e = e} g f) = yes-told text table n (fitsEach (more v none) cs) us r (one names b (more v none) us c cs ws (last-item g f) k) ∙ (several-more v s ∙ (sym y ∙ equal-after e g f))
+      go : {v : Value} {us : List Token} → Sides b (toks text table n i) v us → isFit r ≡ fits v u
+      go {us = us} (one-side {v = v} {e = e} g f) =
+          fit-told text table n (fitsEach (more v none) cs) us r (one names b (more v none) us c cs ws (last-item g f) k)
+          ∙ (several-more v s ∙ (sym y ∙ equal-after e g f))
       go {us = us} (bare-sides {t = t} {v = v} {vs = vs} g f x) =
-          yes-told text table n (fitsEach (more v vs) cs) us r (one names b (more v vs) us c cs ws (next-item g f x) k) ∙ (sym (tuple-fits t (more v vs) cs) ∙ ap (fits (tuple t (more v vs))) (sym q))
+          fit-told text table n (fitsEach (more v vs) cs) us r (one names b (more v vs) us c cs ws (next-item g f x) k)
+          ∙ (sym (tuple-fits t (more v vs) cs) ∙ ap (fits (tuple t (more v vs))) (sym q))
 
 -- ---- one value and its equals sign
 
-pub whole-value : (text table : List ℕ) (n i : ℕ) (ts : List Token) (k : ℕ) (r : Fit) (x : Bool) → OfValue text table n i ts k r → x ≡ isWhole text table n r → (c : ℕ) (w : Ty) (ws : List Token) → IsBase c ts w ws → OfWhole text table n i (stacked k w) x
-whole-value text table n i ts k r x one f c w ws h m b v e us g = f ∙ whole-told text table n (fits v (stacked k w)) e us r (one m b v (e ∷ us) c w ws g h)
+pub whole-value : (text table : List ℕ) (n i : ℕ) (ts : List Token) (kinds k r : ℕ) (x : Bool) → OfValue text table n i ts kinds k r
+    → x ≡ isWhole text table n r
+    → (c : ℕ) (w : Ty) (ws : List Token) → BaseOf kinds c ts w ws → OfWhole text table n i (stacked k w) x
+whole-value text table n i ts kinds k r x one f c w ws h m b v e us g =
+    f ∙ whole-told text table n (fits v (stacked k w)) e us r (one m b v (e ∷ us) c w ws g h)
 
 pub stacked-none : (k : ℕ) (w : Ty) → k ≡ 0 → stacked k w ≡ w
 unfolding stacked
@@ -137,7 +155,8 @@ module _ (text table : List ℕ) (n i s : ℕ) (sees : s ≡ lookahead (toks tex
       go (an-array-seen p f x) = refl
       go (a-tuple-seen p f x) = absurd (d (look p f sees))
 
-  pub bracket : s ≡ leftRound → (c : ℕ) (ts ws : List Token) (lead : ℕ) → Columns lead c ts cs ws → (r : Fit) (x : Bool) → OfEach text table n (i + 1) rightRound ts lead r → x ≡ isWhole text table n r → OfWhole text table n i (tupleOf cs) x
+  pub bracket : s ≡ leftRound → (c : ℕ) (ts ws : List Token) (lead : ℕ) → Columns lead c ts cs ws → (r : ℕ) (x : Bool)
+      → OfEach text table n (i + 1) rightRound ts lead r → x ≡ isWhole text table n r → OfWhole text table n i (tupleOf cs) x
   bracket d c ts ws lead k r x one f m b v e us g = go refl (seen g)
     where
       go : {v : Value} {ys : List Token} → ys ≡ e ∷ us → Seen m (toks text table n i) v ys → x ≡ (fits v (tupleOf cs) && eqb (symOf e) equal)
@@ -145,7 +164,9 @@ module _ (text table : List ℕ) (n i s : ℕ) (sees : s ≡ lookahead (toks tex
       go z (a-literal-seen p q) = absurd (omega (arith, literal-look p q sees .0))
       go z (an-array-seen p q y) = absurd (omega (arith, look p q sees))
       go {ys = ys} z (a-tuple-seen {b = b'} {o = o} {vs = vs} p q y) =
-          f ∙ (whole-told text table n (fitsEach vs cs) e us r (subst (λ (l : List Token). Told text table n (fitsEach vs cs) l r) z (one m b' vs ys c cs ws (subst (λ (l : List Token). Items m rightRound b' l vs ys) (behind p ∙ toks-rest text table n i) y) k))
+          f ∙ (whole-told text table n (fitsEach vs cs) e us r
+          (subst (λ (l : List Token). Fitted text table n (fitsEach vs cs) l r) z
+          (one m b' vs ys c cs ws (subst (λ (l : List Token). Items m rightRound b' l vs ys) (behind p ∙ toks-rest text table n i) y) k))
           ∙ ap (λ (j : Bool). j && eqb (symOf e) equal) (sym (tuple-fits o vs cs)))
 
 -- ---- results
@@ -160,23 +181,57 @@ results-none e (next h f s) = result-some e h
 result-type : {b : ℕ} {ts us : List Token} {r : Result} → IsResult b ts r us → IsType b (drop 2 ts) (r .ty) us
 result-type (a-result e f h) = h
 
-several-types : {b : ℕ} {ts us : List Token} {rs : List Result} (r : Result) → Separated (IsResult b) rightRound ts rs us → Several (typesOf (r ∷ rs)) × (resultType (r ∷ rs) ≡ tupleOf (typesOf (r ∷ rs)))
+several-types : {b : ℕ} {ts us : List Token} {rs : List Result} (r : Result) → Separated (IsResult b) rightRound ts rs us
+    → Several (typesOf (r ∷ rs)) × (resultType (r ∷ rs) ≡ tupleOf (typesOf (r ∷ rs)))
 unfolding typesOf resultType
 several-types r (last h e) = (two-or-more, refl)
 several-types r (next h e s) = (two-or-more, refl)
 
--- the results at place j, the first of which has k pairs and ends at place e, before the terminal o
-module _ (text table : List ℕ) (n j k e o : ℕ)
-    (shape : (b : ℕ) (u : Ty) (us : List Token) → IsType b (toks text table n (j + 2)) u us → NoPair us → Shaped b (toks text table n (j + 2)) u k × (us ≡ toks text table n e))
-    (sees : o ≡ lookahead (toks text table n e)) where
-  first-shape : {b : ℕ} {us : List Token} {r : Result} → IsResult b (toks text table n j) r us → NoPair us → Shaped b (toks text table n (j + 2)) (r .ty) k × (us ≡ toks text table n e)
-  first-shape {b} {us} {r} h f = shape b (r .ty) us (subst (λ (ts : List Token). IsType b ts (r .ty) us) (toks-lead text table n j 2) (result-type h)) f
+-- the only result's type is read two tokens after its name
+only-result : {b : ℕ} {us : List Token} (text table : List ℕ) (n j : ℕ) {r : Result} → IsResult b (toks text table n j) r us
+    → IsType b (toks text table n (j + 2)) (r .ty) us
+only-result {b} {us} text table n j {r} h = subst (λ (ts : List Token). IsType b ts (r .ty) us) (toks-lead text table n j 2) (result-type h)
 
-  pub results-several : o ≡ comma → {b : ℕ} {us : List Token} {rs : List Result} → Separated (IsResult b) rightRound (toks text table n j) rs us → Several (typesOf rs) × (resultType rs ≡ tupleOf (typesOf rs))
-  results-several f (last h d) = let q = first-shape h (round-no-pair d) in absurd (omega (arith, f, look (sym (q .1)) d sees))
+-- and matched as its base and its pairs
+pub one-left : (text table : List ℕ) (n i : ℕ) (ts : List Token) (kinds k : ℕ) (r : Bool)
+    → ((c : ℕ) (w : Ty) (ws : List Token) → BaseOf kinds c ts w ws → OfLeft text table n i (stacked k w) r)
+    → {b : ℕ} {u : Ty} → Shaped b ts u (pairsOf u) → kinds ≡ kindsOf u → k ≡ pairsOf u → OfLeft text table n i u r
+one-left text table n i ts kinds k r f {b} s p q c v us h =
+    f b (s .base) (s .after) (base-of s p) c v us h ∙ ap (fits v) (ap (λ (j : ℕ). stacked j (s .base)) q ∙ sym (s .under))
+
+-- the results at place j, by their number
+module _ (text table : List ℕ) (n j code : ℕ) where
+  pub coded-several : code ≡ several → {b : ℕ} {us : List Token} {rs : List Result} → Separated (IsResult b) rightRound (toks text table n j) rs us
+      → code ≡ resultCode rs
+      → Several (typesOf rs) × (resultType rs ≡ tupleOf (typesOf rs))
+  unfolding resultCode
+  coded-several f (last {a = r} h d) e = absurd (code-single (r .ty) code e f)
+  coded-several f (next {a = r} h d s) e = several-types r s
+
+  pub coded-one : (code ≡ several → ⊥) → {b : ℕ} {us : List Token} {rs : List Result} → Separated (IsResult b) rightRound (toks text table n j) rs us
+      → code ≡ resultCode rs
+      → Shaped b (toks text table n (j + 2)) (resultType rs) (pairsOf (resultType rs)) × (code ≡ typeCode (resultType rs))
+  unfolding resultCode resultType
+  coded-one f (last h d) e = (shape (only-result text table n j h), e)
+  coded-one f (next h d (last g q)) e = absurd (f e)
+  coded-one f (next h d (next g q s)) e = absurd (f e)
+
+-- the results at place j, the first of which has the type u, before the terminal o
+module _ (text table : List ℕ) (n j o : ℕ) (u : TypeAt) (read : OfType text table n (j + 2) u) (sees : o ≡ lookahead (toks text table n (u .end))) where
+  first-end : {b : ℕ} {us : List Token} {r : Result} → IsResult b (toks text table n j) r us → NoPair us → us ≡ toks text table n (u .end)
+  first-end h f = read-of text table n (j + 2) u read (only-result text table n j h) f .end
+
+  pub results-several : o ≡ comma → {b : ℕ} {us : List Token} {rs : List Result} → Separated (IsResult b) rightRound (toks text table n j) rs us
+      → Several (typesOf rs) × (resultType rs ≡ tupleOf (typesOf rs))
+  results-several f (last h d) = absurd (omega (arith, f, look (sym (first-end h (round-no-pair d))) d sees))
   results-several f (next {a = r} h d s) = several-types r s
 
-  pub results-one : (o ≡ comma → ⊥) → {b : ℕ} {us : List Token} {rs : List Result} → Separated (IsResult b) rightRound (toks text table n j) rs us → Shaped b (toks text table n (j + 2)) (resultType rs) k
+  pub results-one : (o ≡ comma → ⊥) → {b : ℕ} {us : List Token} {rs : List Result} → Separated (IsResult b) rightRound (toks text table n j) rs us
+      → Shaped b (toks text table n (j + 2)) (resultType rs) (pairsOf (resultType rs))
+      × (u .kinds ≡ kindsOf (resultType rs)) × (u .pairs ≡ pairsOf (resultType rs))
   unfolding resultType
-  results-one f (last h d) = first-shape h (round-no-pair d) .0
-  results-one f (next h d s) = let q = first-shape h (comma-no-pair d) in absurd (f (look (sym (q .1)) d sees))
+  results-one f (last h d) =
+      let t = only-result text table n j h in
+      let q = read-of text table n (j + 2) u read t (round-no-pair d) in
+      (shape t, q .kinds, q .pairs)
+  results-one f (next h d s) = absurd (f (look (sym (first-end h (comma-no-pair d))) d sees))

@@ -6,7 +6,8 @@ use mathlib.Core.Option.{none as nothing}
 use Prim.Native.Nat.{ℕ}
 use Rattle.lexis.specs.Lexer.{Token}
 use Rattle.syntax.specs.Tree.{Value, Values, Ty, Tys, Param, Result, Header}
-use Rattle.syntax.specs.Grammar.{Separated, last, next, Leaves, Spells, a-name, a-literal, an-empty-array, an-array, a-tuple, Items, last-item, next-item, Dims, no-pair, a-pair, IsType, a-plain, a-tuple-type, IsTypes, last-type, next-type}
+use Rattle.syntax.specs.Grammar.{Separated, last, next, Leaves, Spells, a-name, a-literal, an-empty-array, an-array, a-tuple, Items, last-item, next-item}
+use Rattle.syntax.specs.Grammar.{Dims, no-pair, a-pair, IsType, a-plain, a-tuple-type, IsTypes, last-type, next-type}
 use Rattle.syntax.specs.Grammar.{IsDefault, no-default, a-default, IsParam, a-param, IsResult, a-result, IsHeader, a-header, IsList, no-header, a-header-more}
 use Rattle.lists.specs.Names.{firstToken, namesIn, namesOf}
 
@@ -53,7 +54,8 @@ module _ (P : Token → Type 0) where
         (each-append P (namesIn v) (namesOf vs) (x .0 .names) (y .0), y .1)
 
   -- items parted by commas
-  pub separated-good : {A : Type 0} {Item : List Token → A → List Token → Type 0} {close : ℕ} (Q : A → Type 0) → ((ts us : List Token) (a : A) → Item ts a us → Good ts → Q a × Good us)
+  pub separated-good : {A : Type 0} {Item : List Token → A → List Token → Type 0} {close : ℕ} (Q : A → Type 0)
+      → ((ts us : List Token) (a : A) → Item ts a us → Good ts → Q a × Good us)
       → {ts us : List Token} {xs : List A} → Separated Item close ts xs us → Good ts → Each Q xs × Good us
   separated-good Q f (last i c) g = let x = f _ _ _ i g in ((x .0, tt), x .1 .1)
   separated-good Q f (next i c s) g = let x = f _ _ _ i g in let y = separated-good Q f s (x .1 .1) in ((x .0, y .0), y .1)

@@ -42,7 +42,8 @@ those-none f t h = simp h
 
 -- ---- a scan for a name
 
-among-step : (f : Token → Bool) (s : Token) (ss : List Token) (t : Token) → isAmong (those f (s ∷ ss)) t ≡ ((f s && sameBytes (s .bytes) (t .bytes)) || isAmong (those f ss) t)
+among-step : (f : Token → Bool) (s : Token) (ss : List Token) (t : Token)
+    → isAmong (those f (s ∷ ss)) t ≡ ((f s && sameBytes (s .bytes) (t .bytes)) || isAmong (those f ss) t)
 unfolding those isAmong
 among-step f s ss t = go (f s)
   where
@@ -58,7 +59,8 @@ module _ (text table : List ℕ) (to : ℕ) (t : Token) where
   isLike j = isName (tokenAt text table j) && sameBytes (tokenAt text table j .bytes) (t .bytes)
 
   among-next : (j : ℕ) → j < to → amongFrom j ≡ (isLike j || amongFrom (j + 1))
-  among-next j h = ap (λ (x : List Token). isAmong (namesAmong x) t) (toks-more text table to j h) ∙ among-step isName (tokenAt text table j) (toks text table to (j + 1)) t
+  among-next j h =
+      ap (λ (x : List Token). isAmong (namesAmong x) t) (toks-more text table to j h) ∙ among-step isName (tokenAt text table j) (toks text table to (j + 1)) t
 
   pub found-here : (j : ℕ) → j < to → isLike j ≡ true → amongFrom j ≡ true
   found-here j h e = among-next j h ∙ ap (λ (b : Bool). b || amongFrom (j + 1)) e
@@ -99,7 +101,8 @@ module _ (f : Rule) (ks : List Token) (text table : List ℕ) (from to : ℕ) wh
 
   pub scan-next : (i : ℕ) → from ≤ i → i < to → left i ≡ earlier (here i) (left (i + 1))
   scan-next i h k =
-      ap (λ (x : List Token). first (scan f (namesPassed i) x)) (ap namesAmong (toks-more text table to i k) ∙ those-append isName (tokenAt text table i ∷ []) (toks text table to (i + 1)))
+      ap (λ (x : List Token). first (scan f (namesPassed i) x))
+      (ap namesAmong (toks-more text table to i k) ∙ those-append isName (tokenAt text table i ∷ []) (toks text table to (i + 1)))
       ∙ first-scan f (namesPassed i) (namesAmong (tokenAt text table i ∷ [])) (namesAmong (toks text table to (i + 1)))
       ∙ ap (λ (x : List Token). earlier (here i) (first (scan f x (namesAmong (toks text table to (i + 1)))))) (sym (passed-next i h))
 

@@ -36,7 +36,9 @@ module _ (text table : List ℕ) where
   from-split i (suc a) b =
       let p : suc a + b ≡ suc (a + b) = omega arith in
       let q : i + 1 + a ≡ i + suc a = omega arith in
-      ap (λ (x : ℕ). tokensFrom text table i x) p ∙ ap (λ (x : List Token). tokenAt text table i ∷ x) (from-split (i + 1) a b ∙ ap (λ (x : ℕ). tokensFrom text table (i + 1) a ++ tokensFrom text table x b) q)
+      ap (λ (x : ℕ). tokensFrom text table i x) p
+      ∙ ap (λ (x : List Token). tokenAt text table i ∷ x)
+      (from-split (i + 1) a b ∙ ap (λ (x : ℕ). tokensFrom text table (i + 1) a ++ tokensFrom text table x b) q)
 
   pub toks-split : (n i j : ℕ) → i ≤ j → j ≤ n → toks text table n i ≡ toks text table j i ++ toks text table n j
   toks-split n i j h k =
@@ -46,7 +48,8 @@ module _ (text table : List ℕ) where
 
   -- one token
   pub toks-one : (i : ℕ) → toks text table (i + 1) i ≡ tokenAt text table i ∷ []
-  toks-one i = toks-more text table (i + 1) i (omega arith) ∙ ap (λ (x : List Token). tokenAt text table i ∷ x) (toks-none text table (i + 1) (i + 1) (omega arith))
+  toks-one i =
+      toks-more text table (i + 1) i (omega arith) ∙ ap (λ (x : List Token). tokenAt text table i ∷ x) (toks-none text table (i + 1) (i + 1) (omega arith))
 
   -- one token more
   pub toks-last : (i j : ℕ) → i ≤ j → toks text table (j + 1) i ≡ toks text table j i ++ (tokenAt text table j ∷ [])
@@ -90,7 +93,8 @@ unfolding those
 those-append f [] us = refl
 those-append f (t ∷ ts) us = go (f t) (those-append f ts us)
   where
-    go : (b : Bool) → those f (ts ++ us) ≡ those f ts ++ those f us → cond b (t ∷ those f (ts ++ us)) (those f (ts ++ us)) ≡ cond b (t ∷ those f ts) (those f ts) ++ those f us
+    go : (b : Bool) → those f (ts ++ us) ≡ those f ts ++ those f us
+        → cond b (t ∷ those f (ts ++ us)) (those f (ts ++ us)) ≡ cond b (t ∷ those f ts) (those f ts) ++ those f us
     go true e = ap (λ (x : List Token). t ∷ x) e
     go false e = e
 

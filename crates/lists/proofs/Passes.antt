@@ -12,11 +12,13 @@ use lib.ListN.{length}
 use borrow.Author.Tests.{eqb-true}
 use Rattle.lexis.specs.Lexer.{Token}
 use Rattle.lists.specs.Lists.{Plain}
-use Rattle.lexis.specs.Symbol.{symOf, isLiteral, leftRound, rightRound, leftSquare, rightSquare, equal, comma, arrow, aName, aNumber, aLiteral, fragment, tensorWord, extentWord, scalarWord, logicalWord, stringWord}
+use Rattle.lexis.specs.Symbol.{symOf, isLiteral, leftRound, rightRound, leftSquare, rightSquare, equal, comma, arrow, aName, aNumber, aLiteral, fragment}
+use Rattle.lexis.specs.Symbol.{tensorWord, extentWord, scalarWord, logicalWord, stringWord}
 use Rattle.syntax.specs.Tree.{Value, Ty}
 use Rattle.syntax.specs.Tree.Ty.{tensor, extent, scalar, logical, string, arrayOf}
 use Rattle.syntax.specs.Grammar.{literals}
-use Rattle.syntax.specs.Parser.{Parse, Reader, Lists, then, mapped, expect, follow, onward, rowF, row, valueStep, arrayItems, tupleItems, bracketed, value, typeName, dims, tupleTypes, named-type, baseStep, type, default}
+use Rattle.syntax.specs.Parser.{Parse, Reader, Lists, then, mapped, expect, follow, onward, rowF, row, valueStep, arrayItems, tupleItems, bracketed, value}
+use Rattle.syntax.specs.Parser.{typeName, dims, tupleTypes, named-type, baseStep, type, default}
 use Rattle.syntax.specs.Parser.Parse.{ok, bad}
 use Rattle.syntax.specs.Parser.Row.{commas}
 use Rattle.syntax.specs.Parser.Follow.{again, done, neither}
@@ -157,7 +159,8 @@ unfolding typeName
 type-word s u h = go (eqb s tensorWord) (eqb s extentWord) (eqb s scalarWord) (eqb s logicalWord) (eqb s stringWord) refl refl refl refl refl h
   where
     go : (p q r x y : Bool) → eqb s tensorWord ≡ p → eqb s extentWord ≡ q → eqb s scalarWord ≡ r → eqb s logicalWord ≡ x → eqb s stringWord ≡ y
-        → cond p (some tensor) (cond q (some extent) (cond r (some scalar) (cond x (some logical) (cond y (some string) nothing)))) ≡ some u → (tensorWord ≤ s) × (s ≤ stringWord)
+        → cond p (some tensor) (cond q (some extent) (cond r (some scalar) (cond x (some logical) (cond y (some string) nothing)))) ≡ some u
+        → (tensorWord ≤ s) × (s ≤ stringWord)
     go true q r x y a b c d e k = let z = eqb-true s tensorWord a in (omega arith, omega arith)
     go false true r x y a b c d e k = let z = eqb-true s extentWord b in (omega arith, omega arith)
     go false false true x y a b c d e k = let z = eqb-true s scalarWord c in (omega arith, omega arith)
@@ -183,7 +186,8 @@ dims-over may u (o ∷ c ∷ ts) =
     (λ e. cond-over may (λ _.
     cond-over (eqb (symOf c) rightSquare)
     (λ f. first-over (plain-of o leftSquare (eqb-true (symOf o) leftSquare e) (λ h. omega arith) (λ h. omega arith) (λ h. omega arith))
-    (first-over (plain-of c rightSquare (eqb-true (symOf c) rightSquare f) (λ h. omega arith) (λ h. omega arith) (λ h. omega arith)) (dims-over may (arrayOf u) ts)))
+    (first-over (plain-of c rightSquare (eqb-true (symOf c) rightSquare f) (λ h. omega arith) (λ h. omega arith) (λ h. omega arith))
+    (dims-over may (arrayOf u) ts)))
     (λ _. fault)) (λ _. fault))
     (λ _. over stop)
 

@@ -42,7 +42,8 @@ type-is b ts e = has-read (type-reads b .each ts) e
 pub left-is : (b : ℕ) (ts : List Token) {v : Value} {us : List Token} → left b ts ≡ ok v us → IsLeft b ts v us
 left-is b ts e = has-read (left-reads b .each ts) e
 
-pub results-are : (b : ℕ) (ts : List Token) {rs : List Result} {us : List Token} → row plain (commas rightRound) (result b) ts ≡ ok rs us → Separated (IsResult b) rightRound ts rs us
+pub results-are : (b : ℕ) (ts : List Token) {rs : List Result} {us : List Token} → row plain (commas rightRound) (result b) ts ≡ ok rs us
+    → Separated (IsResult b) rightRound ts rs us
 results-are b ts e = has-read (separated-reads IsResult rightRound (result-shrinks b) (result-reads b) .each ts) e
 
 -- ---- after a type no pair of square brackets is left
@@ -59,7 +60,8 @@ unfolding dims
 dims-stops may u [] = stops end-no-pair
 dims-stops may u (o ∷ []) = choice Stops (eqb (symOf o) leftSquare) (λ e. cond-has Stops may faults faults) (λ e. stops (eqb-false (symOf o) leftSquare e))
 dims-stops may u (o ∷ c ∷ ts) =
-    choice Stops (eqb (symOf o) leftSquare) (λ e. cond-has Stops may (cond-has Stops (eqb (symOf c) rightSquare) (dims-stops may (arrayOf u) ts) faults) faults) (λ e. stops (eqb-false (symOf o) leftSquare e))
+    choice Stops (eqb (symOf o) leftSquare) (λ e. cond-has Stops may (cond-has Stops (eqb (symOf c) rightSquare) (dims-stops may (arrayOf u) ts) faults)
+    faults) (λ e. stops (eqb-false (symOf o) leftSquare e))
 
 then-stops : (p : Parse Ty) (may : Bool) → Stops (then p (dims may))
 then-stops (ok u us) may = dims-stops may u us
@@ -78,10 +80,12 @@ type-ends b ts e = stopped (subst Stops e (type-stops b ts))
 
 -- ---- results as columns
 
-one-column : {b : ℕ} {ts us : List Token} {c : Token} {r : Result} → IsResult b ts r (c ∷ us) → symOf c ≡ rightRound → Columns 2 b ts (a-type (r .ty) no-type) us
+one-column : {b : ℕ} {ts us : List Token} {c : Token} {r : Result} → IsResult b ts r (c ∷ us) → symOf c ≡ rightRound
+    → Columns 2 b ts (a-type (r .ty) no-type) us
 one-column (a-result f g t) e = last-column t e
 
-more-columns : {b : ℕ} {ts us ws : List Token} {c : Token} {r : Result} {vs : Tys} → IsResult b ts r (c ∷ us) → symOf c ≡ comma → Columns 2 b us vs ws → Columns 2 b ts (a-type (r .ty) vs) ws
+more-columns : {b : ℕ} {ts us ws : List Token} {c : Token} {r : Result} {vs : Tys} → IsResult b ts r (c ∷ us) → symOf c ≡ comma → Columns 2 b us vs ws
+    → Columns 2 b ts (a-type (r .ty) vs) ws
 more-columns (a-result f g t) e s = next-column t e s
 
 pub columns : {b : ℕ} {ts us : List Token} {rs : List Result} → Separated (IsResult b) rightRound ts rs us → Columns 2 b ts (typesOf rs) us

@@ -30,7 +30,8 @@ pub scan-append : (f : Rule) (ss ts us : List Token) → scan f ss (ts ++ us) �
 unfolding scan
 scan-append f ss [] us = ap (λ (l : List Token). scan f l us) (sym (append-nil ss))
 scan-append f ss (t ∷ ts) us =
-    ap (λ (l : List Fault). f ss t ++ l) (scan-append f (ss ++ (t ∷ [])) ts us ∙ ap (λ (l : List Token). scan f (ss ++ (t ∷ [])) ts ++ scan f l us) (append-assoc ss (t ∷ []) ts))
+    ap (λ (l : List Fault). f ss t ++ l)
+    (scan-append f (ss ++ (t ∷ [])) ts us ∙ ap (λ (l : List Token). scan f (ss ++ (t ∷ [])) ts ++ scan f l us) (append-assoc ss (t ∷ []) ts))
     ∙ sym (append-assoc (f ss t) (scan f (ss ++ (t ∷ [])) ts) (scan f (ss ++ (t ∷ ts)) us))
 
 pub first-scan : (f : Rule) (ss ts us : List Token) → first (scan f ss (ts ++ us)) ≡ earlier (first (scan f ss ts)) (first (scan f (ss ++ ts) us))
@@ -68,7 +69,8 @@ repeating-is code ss [] = refl
 repeating-is code ss (t ∷ ts) = go (isAmong ss t) (repeating-is code (ss ++ (t ∷ [])) ts)
   where
     go : (b : Bool) → faults code (starts (repeatsAfter (ss ++ (t ∷ [])) ts)) ≡ scan (repeating code) (ss ++ (t ∷ [])) ts
-        → faults code (starts (cond b (t ∷ repeatsAfter (ss ++ (t ∷ [])) ts) (repeatsAfter (ss ++ (t ∷ [])) ts))) ≡ when b (fault code (t .start)) ++ scan (repeating code) (ss ++ (t ∷ [])) ts
+        → faults code (starts (cond b (t ∷ repeatsAfter (ss ++ (t ∷ [])) ts) (repeatsAfter (ss ++ (t ∷ [])) ts))) ≡ when b (fault code (t .start))
+        ++ scan (repeating code) (ss ++ (t ∷ [])) ts
     go true e = ap (λ (l : List Fault). fault code (t .start) ∷ l) e
     go false e = e
 
@@ -78,7 +80,8 @@ unfolding scan
 past-size size ss [] h = refl
 past-size size ss (t ∷ ts) h =
     let l = length-append ss (t ∷ []) in
-    ap (λ (b : Bool). when b (fault 12 (t .start)) ++ scan (beyond size) (ss ++ (t ∷ [])) ts) (ne-eqb (length ss) size (λ z. omega arith)) ∙ past-size size (ss ++ (t ∷ [])) ts (omega arith)
+    ap (λ (b : Bool). when b (fault 12 (t .start)) ++ scan (beyond size) (ss ++ (t ∷ [])) ts) (ne-eqb (length ss) size (λ z. omega arith))
+    ∙ past-size size (ss ++ (t ∷ [])) ts (omega arith)
 
 beyond-from : (size k : ℕ) (ss ts : List Token) → length ss + k ≡ size → over k (starts ts) ≡ scan (beyond size) ss ts
 unfolding scan
@@ -86,10 +89,13 @@ beyond-from size zero ss [] h = refl
 beyond-from size (suc k) ss [] h = refl
 beyond-from size zero ss (t ∷ ts) h =
     let l = length-append ss (t ∷ []) in
-    sym (ap₂ (λ (b : Bool) (x : List Fault). when b (fault 12 (t .start)) ++ x) (eq-eqb (length ss) size (omega arith)) (past-size size (ss ++ (t ∷ [])) ts (omega arith)))
+    sym
+    (ap₂ (λ (b : Bool) (x : List Fault). when b (fault 12 (t .start)) ++ x) (eq-eqb (length ss) size (omega arith))
+    (past-size size (ss ++ (t ∷ [])) ts (omega arith)))
 beyond-from size (suc k) ss (t ∷ ts) h =
     let l = length-append ss (t ∷ []) in
-    beyond-from size k (ss ++ (t ∷ [])) ts (omega arith) ∙ sym (ap (λ (b : Bool). when b (fault 12 (t .start)) ++ scan (beyond size) (ss ++ (t ∷ [])) ts) (ne-eqb (length ss) size (λ z. omega arith)))
+    beyond-from size k (ss ++ (t ∷ [])) ts (omega arith)
+    ∙ sym (ap (λ (b : Bool). when b (fault 12 (t .start)) ++ scan (beyond size) (ss ++ (t ∷ [])) ts) (ne-eqb (length ss) size (λ z. omega arith)))
 
 pub beyond-is : (size : ℕ) (ts : List Token) → over size (starts ts) ≡ scan (beyond size) [] ts
 beyond-is size ts = beyond-from size size [] ts (omega arith)

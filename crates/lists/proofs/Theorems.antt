@@ -51,12 +51,14 @@ pub list-bytes : (list : List ℕ) (c p : ℕ) → lex list ≡ refused c p → 
 unfolding listStages
 list-bytes list c p e = rw e
 
-pub list-syntax : (list : List ℕ) (c : ℕ) (ts us : List Token) → lex list ≡ accepted ts → FirstFault (λ b xs. (hs : List Header) × IsList b xs hs) maxBrackets c ts us
+pub list-syntax : (list : List ℕ) (c : ℕ) (ts us : List Token) → lex list ≡ accepted ts
+    → FirstFault (λ b xs. (hs : List Header) × IsList b xs hs) maxBrackets c ts us
     → listStages list ≡ stop (answer c 1 (placeOf (length list) us) 0)
 unfolding listStages
 list-syntax list c ts us e f = rw (e, list-fault-given maxBrackets c ts us f)
 
-pub list-rules : (list : List ℕ) (ts : List Token) (hs : List Header) (x : Fault) → lex list ≡ accepted ts → IsList maxBrackets ts hs → IsFirst x (listFaults hs)
+pub list-rules : (list : List ℕ) (ts : List Token) (hs : List Header) (x : Fault) → lex list ≡ accepted ts → IsList maxBrackets ts hs
+    → IsFirst x (listFaults hs)
     → listStages list ≡ stop (answer (x .code) 1 (x .at) (x .detail))
 unfolding listStages
 list-rules list ts hs x e s f = rw (e, list-parsed maxBrackets ts hs .1 s, first-fault (listFaults hs) x .1 f)
@@ -90,7 +92,9 @@ module _ (list : List ℕ) (work : ℕ) where
       by l (pass hs) q e = (hs, list-passed list hs l q)
       by l (stop r) q e = absurd (omega (arith, list-codes list r q))
 
-      go : (a b : Bool) → leb (length list) maxText ≡ b → stageAnswer (guard a (answer 1 0 0 0) (guard b (answer 2 1 maxText 0) (listStages list))) length .code ≡ 0 → (hs : List Header) × AcceptedList list hs
+      go : (a b : Bool) → leb (length list) maxText ≡ b
+          → stageAnswer (guard a (answer 1 0 0 0) (guard b (answer 2 1 maxText 0) (listStages list))) length .code ≡ 0
+          → (hs : List Header) × AcceptedList list hs
       go false b q e = absurd (omega arith)
       go true false q e = absurd (omega arith)
       go true true q e = by (leb-true (length list) maxText q) (listStages list) refl e

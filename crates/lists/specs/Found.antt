@@ -8,8 +8,8 @@ use Rattle.lexis.specs.Words.{sameBytes}
 use Rattle.lexis.specs.Lexer.{Token}
 use Rattle.syntax.specs.Tree.{Header}
 use Rattle.lists.specs.Reading.{isSome}
-use Rattle.lists.specs.declared.operation.Lookup.{Lookup}
-use Rattle.lists.specs.declared.operation.Lookup.the-variants.{At, Missing}
+use Rattle.lists.specs.declared.directory.Lookup.{Lookup}
+use Rattle.lists.specs.declared.directory.Lookup.the-variants.{At, Missing}
 
 -- the declared operation of a name
 unfoldable pub operationOf : List Header → List ℕ → Option Header

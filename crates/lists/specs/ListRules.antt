@@ -27,7 +27,8 @@ headerNames h = paramNames (h .params) ++ map (λ (r : Result). r .name) (h .res
 unfoldable pub listCounts : List Header → List Fault
 listCounts hs =
     over maxOperations (map (λ (h : Header). h .keyword .start) hs)
-    ++ flatMap (λ (h : Header). over maxParameters (starts (paramNames (h .params))) ++ over maxResults (starts (map (λ (r : Result). r .name) (h .results)))) hs
+    ++ flatMap (λ (h : Header). over maxParameters (starts (paramNames (h .params))) ++ over maxResults (starts (map (λ (r : Result). r .name) (h .results))))
+    hs
 
 -- 13: an operation's name repeated, or a name repeated among one header's parameters and results together, at the second one
 unfoldable pub listRepeats : List Header → List Fault

@@ -2,7 +2,7 @@
 use Prim.Native.Nat.{ℕ, suc, _-_, _<_, _≤_}
 use mathlib.Core.Path.{_≡_}
 use mathlib.Core.Bool.{Bool, cond}
-use mathlib.Core.List.{List, [], _∷_, _++_, map, flatMap, flatten}
+use mathlib.Core.List.{List, [], _∷_, map, flatMap, flatten}
 use lib.Dec.{eqb}
 use lib.ListN.{length, getD}
 use lib.Seq.{sets}
@@ -18,8 +18,8 @@ use Rattle.lists.specs.Code as Code
 use Rattle.lists.specs.Fault.{Fault, faults, starts}
 use Rattle.lists.specs.Names.{repeats}
 use Rattle.lists.specs.ListRules.{over, paramNames, headerNames, badDefault}
-use Rattle.lists.specs.declared.operation.Lookup.{Lookup}
-use Rattle.lists.specs.declared.operation.Lookup.the-variants.{At, Missing}
+use Rattle.lists.specs.declared.directory.Lookup.{Lookup}
+use Rattle.lists.specs.declared.directory.Lookup.the-variants.{At, Missing}
 
 -- ---- flat scans
 

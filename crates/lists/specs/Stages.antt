@@ -1,9 +1,9 @@
 -- What the stages of an operation list come to, and what they leave: a table in the work area, and the directory of its operations.
 use Prim.Native.Nat.{ℕ, _≤_}
 use mathlib.Core.Path.{_≡_}
-use mathlib.Core.List.{List, []}
-use lib.ListN.{length, take}
-use Rattle.lexis.specs.Sizes.{maxTokens, maxBrackets}
+use mathlib.Core.List.{List, [], map}
+use lib.ListN.{length, replicate}
+use Rattle.lexis.specs.Sizes.{maxTokens}
 use Rattle.lexis.specs.Lexer.{accepted, lex}
 use Rattle.syntax.specs.Tree.{Header}
 use Rattle.syntax.specs.Parser.{parseList}
@@ -11,7 +11,10 @@ use Rattle.syntax.specs.Parser.Parse.{ok}
 use Rattle.syntax.specs.Table.{toks, Holds}
 use Rattle.lists.specs.Fault as F
 use Rattle.lists.specs.ListRules.{listFaults}
-use Rattle.lists.specs.Lists.{Heads, NamePlaces}
+use Rattle.index.specs.Layout.{indexWords}
+use Rattle.index.specs.Indexed.{Walkable}
+use Rattle.lists.specs.Directory.{OperationsAt}
+use Rattle.lists.specs.Headers.{Roomy, Numbered}
 use Rattle.lists.specs.Answer.{pass, stop, rulesStage, listStages}
 use Rattle.lists.specs.declared.list.Listed.{Listed}
 use Rattle.lists.specs.declared.list.Listed.the-variants.{Passed, Stopped}
@@ -24,8 +27,14 @@ pub record ListRead (text work : List ℕ) (n : ℕ) : Type 0 where
   pub parsed : parseList (toks text work n 0) ≡ ok headers []
   pub stages : listStages text ≡ rulesStage 1 headers (F.first (listFaults headers))
 
--- the list has passed its stages; it has n tokens and k operations, whose directory is in front of `names`
-pub record ListPassed (text work names : List ℕ) (n k : ℕ) : Type 0 where
+-- an index of no names and words for a directory, with room for n tokens
+pub record Served (index words : List ℕ) (n : ℕ) : Type 0 where
+  pub empty : index ≡ replicate (length index) 0
+  pub room : indexWords n ≤ length index
+  pub roomy : Roomy words n
+
+-- the list has passed its stages; it has n tokens and k operations, whose directory and names are left
+pub record ListPassed (text work index words : List ℕ) (n k : ℕ) : Type 0 where
   pub headers : List Header
   pub stages : listStages text ≡ pass headers
   pub count : length headers ≡ k
@@ -34,10 +43,12 @@ pub record ListPassed (text work names : List ℕ) (n k : ℕ) : Type 0 where
   pub lexed : lex text ≡ accepted (toks text work n 0)
   pub table : Holds text work n
   pub parsed : parseList (toks text work n 0) ≡ ok headers []
-  pub places : NamePlaces n (take k names)
-  pub heads : Heads text work n maxBrackets (take k names) headers
+  pub directory : OperationsAt text work words n 0 headers
+  pub roomy : Roomy words n
+  pub walkable : Walkable index n n
+  pub names : Numbered text work index n k (map (λ (h : Header). h .name) headers)
 
 -- what the stages come to
-abbrev pub ListDone : List ℕ → List ℕ → List ℕ → Listed → Type 0
-ListDone text work names (Passed n k) = ListPassed text work names n k
-ListDone text work names (Stopped r) = listStages text ≡ stop r
+abbrev pub ListDone : List ℕ → List ℕ → List ℕ → List ℕ → Listed → Type 0
+ListDone text work index words (Passed n k) = ListPassed text work index words n k
+ListDone text work index words (Stopped r) = listStages text ≡ stop r

@@ -1,54 +1,38 @@
 // Whether a value fits a type, and a left side the results of an operation. Value and type stand in two token tables.
-use lexis::kind::Kind;
+use crate::types::LeafKinds;
+use crate::types::SEVERAL;
+use crate::types::kinds_in;
+use crate::types::pairs_in;
+use crate::types::takes;
+use crate::types::type_of;
 use lexis::limits::Limits;
 use lexis::symbol::Symbol;
 use syntax::symbol::symbol_at;
 ghost use mathlib.Core.Path.{_≡_};
 ghost use mathlib.Core.Bool.{true, false};
 ghost use mathlib.Core.List.{List};
-ghost use Prim.Native.Nat.{ℕ, _+_, _-_, _*_, _<_, _≤_};
+ghost use Prim.Native.Nat.{ℕ, _+_, _-_, _<_, _≤_};
 ghost use lib.Dec.{leb};
 ghost use Rattle.lexis.specs.Ascii.{byte};
 ghost use Rattle.lexis.specs.Sizes.{maxExtent};
 ghost use Rattle.lexis.specs.Number.{valueFrom};
 ghost use Rattle.lexis.specs.Lexer.{Token};
-ghost use Rattle.lexis.specs.Symbol.{rightRound, comma};
-ghost use Rattle.syntax.specs.Tree.{Value, Ty, Tys, Result};
+ghost use Rattle.lexis.specs.Symbol.{comma};
+ghost use Rattle.syntax.specs.Tree.{Value, Ty, Tys};
 ghost use Rattle.syntax.specs.Tree.Ty.{tupleOf};
-ghost use Rattle.syntax.specs.Grammar.{Leaves, Dims, IsType};
-ghost use Rattle.syntax.specs.Parser.{value, type, row, plain, commas, result, left};
-ghost use Rattle.syntax.specs.Parser.Parse.{ok};
-ghost use Rattle.syntax.specs.Table.{toks, Holds, tokenAt};
+ghost use Rattle.syntax.specs.Parser.{value, type, left};
+ghost use Rattle.syntax.specs.Table.{toks, Holds};
 ghost use Rattle.syntax.specs.Inner.{theEnd};
-ghost use Rattle.lists.specs.Reading.{isNumber, fits, allTensor, resultType};
-ghost use Rattle.lists.specs.Fitting.{literalFits, leafFits, stacked, Several, IsBase, NoPair, Shaped, Columns, roundsOpened, roundsClosed, still, typeWalk, Within, isYes, isWhole, OfValue, OfArray, OfEach, OfLeft, OfWhole};
+ghost use Rattle.lists.specs.Reading.{fits};
+ghost use Rattle.lists.specs.Fitting.{leafFitsAt, isLeaf, leafAnswer, stacked, Several, Columns, OfShape};
+ghost use Rattle.lists.specs.Fitting.{Within, isWhole, OfItem, BaseOf, OfValue, OfArray, OfEach, OfLeft, OfWhole, OfResults};
 
-// The kinds of literal, as words of a token record.
-const WHOLE: u32 = Kind::WHOLE as u32;
+// The answer of the functions here is the place after the value where it fits, which is never 0, and 0 where not. Numbers cross a call in
+// a register, and these functions call each other for every bracket.
+pub const MISFIT: usize = 0;
 
-const REAL: u32 = Kind::REAL as u32;
-
-const STRING: u32 = Kind::STRING as u32;
-
-const TRUTH: u32 = Kind::TRUTH as u32;
-
-// Whether a value fits, and the place after it.
-pub enum Fit {
-    Yes(usize),
-    No,
-}
-
-// The place after a type without its pairs of square brackets, and whether tensor is the only word in it.
-pub struct Span {
-    pub at: usize,
-    pub tensor: bool,
-}
-
-// The pairs of square brackets of a type, and the place after it.
-pub struct Shape {
-    pub pairs: usize,
-    pub at: usize,
-}
+// A number of fewer bytes is at most 2,147,483,647, whatever the bytes are.
+const SHORT: usize = 8;
 
 // The number of a digit.
 pub fn digit(b: u8) -> u64
@@ -63,7 +47,7 @@ pub fn digit(b: u8) -> u64
 }
 
 // Whether the number that digits spell is at most 2,147,483,647.
-fn is_extent(w: &[u8]) -> bool
+fn is_small(w: &[u8]) -> bool
     ensures { λ r. ⌜ r ≡ leb (valueFrom 0 (now (w .entry))) maxExtent ⌝ }
 {
     let mut v = 0;
@@ -78,42 +62,14 @@ fn is_extent(w: &[u8]) -> bool
     true
 }
 
-// Whether a token of this kind is a number, whole or real.
-fn is_number(kind: u32) -> bool
-    ensures { λ r. ⌜ r ≡ isNumber kind ⌝ }
+// The same, without a look at few digits.
+fn is_extent(w: &[u8]) -> bool
+    ensures { λ r. ⌜ r ≡ leb (valueFrom 0 (now (w .entry))) maxExtent ⌝ }
 {
-    if kind == WHOLE {
+    if w.len() < SHORT {
         return true;
     }
-    kind == REAL
-}
-
-// Whether a literal of this kind and these bytes fits a type word.
-fn literal_fits(word: u32, kind: u32, w: &[u8]) -> bool
-    ensures { λ r. ⌜ r ≡ literalFits word kind (now (w .entry)) ⌝ }
-{
-    if word == Symbol::TENSOR {
-        if kind == TRUTH {
-            return true;
-        }
-        return is_number(kind);
-    }
-    if word == Symbol::EXTENT {
-        if kind != WHOLE {
-            return false;
-        }
-        return is_extent(w);
-    }
-    if word == Symbol::SCALAR {
-        return is_number(kind);
-    }
-    if word == Symbol::LOGICAL {
-        return kind == TRUTH;
-    }
-    if word == Symbol::STRING {
-        return kind == STRING;
-    }
-    false
+    is_small(w)
 }
 
 fn size(x: u32) -> usize
@@ -122,147 +78,47 @@ fn size(x: u32) -> usize
     x as usize
 }
 
-// Whether the literal at place `at` fits a type word.
-fn literal_at(text: &[u8], table: &[u32], n: usize, at: usize, word: u32) -> bool
+// Whether the leaf at place `at` fits a type word of these kinds.
+fn leaf_fits(text: &[u8], table: &[u32], n: usize, at: usize, kinds: u32) -> bool
     requires { ⌜ Holds (now text) (now table) n ⌝ }
     requires { ⌜ at < n ⌝ }
-    ensures { λ r. ⌜ r ≡ literalFits word (tokenAt (now (text .entry)) (now (table .entry)) at .kind) (tokenAt (now (text .entry)) (now (table .entry)) at .bytes) ⌝ }
+    ensures { λ r. ⌜ r ≡ leafFitsAt (now (text .entry)) (now (table .entry)) at kinds ⌝ }
 {
     let i = at * Limits::RECORD_WORDS;
-    let start = size(table[i + 1]);
-    let end = size(table[i + 2]);
-    literal_fits(word, table[i], &text[start..end])
-}
-
-// Whether the leaf at place `at`, of terminal s, fits a type word. There is none at the end.
-fn leaf_fits(text: &[u8], table: &[u32], n: usize, at: usize, s: u32, word: u32) -> bool
-    requires { ⌜ Holds (now text) (now table) n ⌝ }
-    ensures range { λ r. ⌜ (r ≡ true → at < n) ⌝ }
-    ensures meaning { λ r. ⌜ (at < n → r ≡ leafFits s word (tokenAt (now (text .entry)) (now (table .entry)) at)) ⌝ }
-{
-    if n <= at {
+    if !takes(kinds, table[i]) {
         return false;
     }
-    if s == Symbol::NAME {
-        return word == Symbol::TENSOR;
+    if kinds != LeafKinds::EXTENT {
+        return true;
     }
-    literal_at(text, table, n, at, word)
+    let start = size(table[i + 1]);
+    let end = size(table[i + 2]);
+    is_extent(&text[start..end])
 }
 
-// How many round brackets the terminal s opens.
-fn opens(s: u32) -> usize
-    ensures { λ r. ⌜ r ≡ roundsOpened s ⌝ }
+// Whether the terminal s is a leaf.
+fn is_leaf(s: u32) -> bool
+    ensures { λ r. ⌜ r ≡ isLeaf s ⌝ }
 {
-    if s == Symbol::LEFT_ROUND {
-        return 1;
+    if s < Symbol::NAME {
+        return false;
     }
-    0
+    s <= Symbol::LITERAL
 }
 
-// How many round brackets the terminal s closes.
-fn closes(s: u32) -> usize
-    ensures { λ r. ⌜ r ≡ roundsClosed s ⌝ }
-{
-    if s == Symbol::RIGHT_ROUND {
-        return 1;
-    }
-    0
-}
-
-// Whether tensor is still the only word, after the terminal s.
-fn still(s: u32, tensor: bool) -> bool
-    ensures { λ r. ⌜ r ≡ still s tensor ⌝ }
-{
-    if s < Symbol::EXTENT {
-        return tensor;
-    }
-    false
-}
-
-// The tokens of a tuple type after its bracket.
-fn inside(text: &[u8], table: &[u32], n: usize, at: usize) -> Span
+// The leaf at place `at` against a type word of these kinds under k pairs of square brackets.
+fn fits_leaf(text: &[u8], table: &[u32], n: usize, at: usize, kinds: u32, k: usize) -> usize
     requires { ⌜ Holds (now text) (now table) n ⌝ }
-    requires { ⌜ at ≤ n ⌝ }
-    ensures range { λ r. ⌜ r .at ≤ n ⌝ }
-    ensures meaning { λ r. ⌜ record { left = toks (now (text .entry)) (now (table .entry)) n (r .at); tensor = r .tensor } ≡ typeWalk 1 true (toks (now (text .entry)) (now (table .entry)) n at) ⌝ }
+    requires { ⌜ at < n ⌝ }
+    ensures { λ r. ⌜ r ≡ leafAnswer (now (text .entry)) (now (table .entry)) at kinds k ⌝ }
 {
-    let mut depth = 1;
-    let mut tensor = true;
-    let mut i = at;
-    while i < n {
-        let s = symbol_at(text, table, n, i);
-        depth = depth + opens(s) - closes(s);
-        tensor = still(s, tensor);
-        i += 1;
-        if depth == 0 {
-            return Span {
-                at: i,
-                tensor: tensor,
-            };
-        }
+    if k != 0 {
+        return MISFIT;
     }
-    Span {
-        at: n,
-        tensor: tensor,
+    if leaf_fits(text, table, n, at, kinds) {
+        return at + 1;
     }
-}
-
-// A type without its pairs of square brackets.
-fn base(text: &[u8], table: &[u32], n: usize, at: usize) -> Span
-    requires { ⌜ Holds (now text) (now table) n ⌝ }
-    ensures range { λ r. ⌜ r .at ≤ n ⌝ }
-    ensures meaning { λ r. ⌜ ((b : ℕ) (w : Ty) (us : List Token) → IsBase b (toks (now (text .entry)) (now (table .entry)) n at) w us → (us ≡ toks (now (text .entry)) (now (table .entry)) n (r .at)) × (r .tensor ≡ allTensor w)) ⌝ }
-{
-    if n <= at {
-        return Span {
-            at: n,
-            tensor: false,
-        };
-    }
-    let s = symbol_at(text, table, n, at);
-    if s == Symbol::LEFT_ROUND {
-        return inside(text, table, n, at + 1);
-    }
-    Span {
-        at: at + 1,
-        tensor: s == Symbol::TENSOR,
-    }
-}
-
-// How many pairs of square brackets stand from place `at` on.
-fn pairs(text: &[u8], table: &[u32], n: usize, at: usize) -> usize
-    requires { ⌜ Holds (now text) (now table) n ⌝ }
-    requires { ⌜ at ≤ n ⌝ }
-    ensures range { λ r. ⌜ at + 2 * r ≤ n + 1 ⌝ }
-    ensures meaning { λ r. ⌜ ((b : ℕ) (w u : Ty) (us : List Token) → Dims b (toks (now (text .entry)) (now (table .entry)) n at) w u us → NoPair us → (u ≡ stacked r w) × (us ≡ toks (now (text .entry)) (now (table .entry)) n (at + 2 * r))) ⌝ }
-{
-    let mut k = 0;
-    while symbol_at(text, table, n, at + 2 * k) == Symbol::LEFT_SQUARE {
-        k += 1;
-    }
-    k
-}
-
-// The shape of the type at place `at`.
-pub fn shape_at(text: &[u8], table: &[u32], n: usize, at: usize) -> Shape
-    requires { ⌜ Holds (now text) (now table) n ⌝ }
-    ensures range { λ r. ⌜ r .at ≤ n + 1 ⌝ }
-    ensures meaning { λ r. ⌜ ((b : ℕ) (u : Ty) (us : List Token) → IsType b (toks (now (text .entry)) (now (table .entry)) n at) u us → NoPair us → Shaped b (toks (now (text .entry)) (now (table .entry)) n at) u (r .pairs) × (us ≡ toks (now (text .entry)) (now (table .entry)) n (r .at))) ⌝ }
-{
-    let b = base(text, table, n, at);
-    let k = pairs(text, table, n, b.at);
-    Shape {
-        pairs: k,
-        at: b.at + 2 * k,
-    }
-}
-
-// Whether the type at place t has no word other than tensor.
-pub fn all_tensor(text: &[u8], table: &[u32], n: usize, t: usize) -> bool
-    requires { ⌜ Holds (now text) (now table) n ⌝ }
-    ensures { λ r. ⌜ ((c : ℕ) (u : Ty) (ws : List Token) → type c (toks (now (text .entry)) (now (table .entry)) n t) ≡ ok u ws → r ≡ allTensor u) ⌝ }
-{
-    base(text, table, n, t).tensor
+    MISFIT
 }
 
 // Whether the terminals s and w are a and b.
@@ -276,7 +132,7 @@ fn both(s: u32, a: u32, w: u32, b: u32) -> bool
     w == b
 }
 
-// Whether the value at place v fits the base at place t under k pairs of square brackets.
+// Whether the value at place v fits the base at place t, of these kinds, under k pairs of square brackets.
 fn fits_base(
     vtext: &[u8],
     vtable: &[u32],
@@ -286,35 +142,61 @@ fn fits_base(
     ttable: &[u32],
     tn: usize,
     t: usize,
+    kinds: u32,
     k: usize,
-) -> Fit
+) -> usize
     requires { ⌜ Holds (now vtext) (now vtable) vn ⌝ }
     requires { ⌜ Holds (now ttext) (now ttable) tn ⌝ }
     ensures range { λ r. ⌜ Within vn v r ⌝ }
-    ensures meaning { λ r. ⌜ OfValue (now (vtext .entry)) (now (vtable .entry)) vn v (toks (now (ttext .entry)) (now (ttable .entry)) tn t) k r ⌝ }
+    ensures meaning { λ r. ⌜ OfValue (now (vtext .entry)) (now (vtable .entry)) vn v (toks (now (ttext .entry)) (now (ttable .entry)) tn t) kinds k r ⌝ }
 {
     let s = symbol_at(vtext, vtable, vn, v);
+    if is_leaf(s) {
+        return fits_leaf(vtext, vtable, vn, v, kinds, k);
+    }
     if s == Symbol::LEFT_SQUARE {
         if k == 0 {
-            return Fit::No;
+            return MISFIT;
         }
-        return fits_array(vtext, vtable, vn, v + 1, ttext, ttable, tn, t, k - 1);
+        return fits_array(vtext, vtable, vn, v + 1, ttext, ttable, tn, t, kinds, k - 1);
     }
     if k != 0 {
-        return Fit::No;
+        return MISFIT;
     }
-    let w = symbol_at(ttext, ttable, tn, t);
-    if s == Symbol::LEFT_ROUND {
-        if w != Symbol::LEFT_ROUND {
-            return Fit::No;
-        }
-        let close = Symbol::RIGHT_ROUND;
-        return fits_each(vtext, vtable, vn, v + 1, close, ttext, ttable, tn, t + 1, 0);
+    if !both(
+        s,
+        Symbol::LEFT_ROUND,
+        symbol_at(ttext, ttable, tn, t),
+        Symbol::LEFT_ROUND,
+    ) {
+        return MISFIT;
     }
-    if leaf_fits(vtext, vtable, vn, v, s, w) {
-        return Fit::Yes(v + 1);
+    let close = Symbol::RIGHT_ROUND;
+    fits_each(vtext, vtable, vn, v + 1, close, ttext, ttable, tn, t + 1, 0)
+}
+
+// The same, with a leaf settled apart from the functions that call each other: most items are leaves, and a call costs more than the test.
+fn fits_one(
+    vtext: &[u8],
+    vtable: &[u32],
+    vn: usize,
+    v: usize,
+    ttext: &[u8],
+    ttable: &[u32],
+    tn: usize,
+    t: usize,
+    kinds: u32,
+    k: usize,
+) -> usize
+    requires { ⌜ Holds (now vtext) (now vtable) vn ⌝ }
+    requires { ⌜ Holds (now ttext) (now ttable) tn ⌝ }
+    ensures range { λ r. ⌜ Within vn v r ⌝ }
+    ensures meaning { λ r. ⌜ OfValue (now (vtext .entry)) (now (vtable .entry)) vn v (toks (now (ttext .entry)) (now (ttable .entry)) tn t) kinds k r ⌝ }
+{
+    if is_leaf(symbol_at(vtext, vtable, vn, v)) {
+        return fits_leaf(vtext, vtable, vn, v, kinds, k);
     }
-    Fit::No
+    fits_base(vtext, vtable, vn, v, ttext, ttable, tn, t, kinds, k)
 }
 
 // Whether the items of the array after its bracket at place v fit the base at place t under k pairs of square brackets.
@@ -327,27 +209,29 @@ fn fits_array(
     ttable: &[u32],
     tn: usize,
     t: usize,
+    kinds: u32,
     k: usize,
-) -> Fit
+) -> usize
     requires { ⌜ Holds (now vtext) (now vtable) vn ⌝ }
     requires { ⌜ Holds (now ttext) (now ttable) tn ⌝ }
     ensures range { λ r. ⌜ Within vn v r ⌝ }
-    ensures meaning { λ r. ⌜ OfArray (now (vtext .entry)) (now (vtable .entry)) vn v (toks (now (ttext .entry)) (now (ttable .entry)) tn t) k r ⌝ }
+    ensures meaning { λ r. ⌜ OfArray (now (vtext .entry)) (now (vtable .entry)) vn v (toks (now (ttext .entry)) (now (ttable .entry)) tn t) kinds k r ⌝ }
 {
     if symbol_at(vtext, vtable, vn, v) == Symbol::RIGHT_SQUARE {
-        return Fit::Yes(v + 1);
+        return v + 1;
     }
     let mut i = v;
     loop {
-        let Fit::Yes(next) = fits_base(vtext, vtable, vn, i, ttext, ttable, tn, t, k) else {
-            return Fit::No;
-        };
+        let next = fits_one(vtext, vtable, vn, i, ttext, ttable, tn, t, kinds, k);
+        if next == MISFIT {
+            return MISFIT;
+        }
         let s = symbol_at(vtext, vtable, vn, next);
         if s == Symbol::RIGHT_SQUARE {
-            return Fit::Yes(next + 1);
+            return next + 1;
         }
         if s != Symbol::COMMA {
-            return Fit::No;
+            return MISFIT;
         }
         i = next + 1;
     }
@@ -365,7 +249,7 @@ fn fits_each(
     tn: usize,
     t: usize,
     lead: usize,
-) -> Fit
+) -> usize
     requires { ⌜ Holds (now vtext) (now vtable) vn ⌝ }
     requires { ⌜ Holds (now ttext) (now ttable) tn ⌝ }
     requires { ⌜ (close < theEnd) × (close ≡ comma → ⊥) × (t ≤ tn) × (lead ≤ 2) ⌝ }
@@ -376,47 +260,37 @@ fn fits_each(
     let mut j = t;
     loop {
         let from = j + lead;
-        let u = shape_at(ttext, ttable, tn, from);
-        let Fit::Yes(next) = fits_base(vtext, vtable, vn, i, ttext, ttable, tn, from, u.pairs)
-        else {
-            return Fit::No;
-        };
+        let u = type_of(ttext, ttable, tn, from);
+        let next = fits_one(
+            vtext,
+            vtable,
+            vn,
+            i,
+            ttext,
+            ttable,
+            tn,
+            from,
+            u.kinds,
+            u.pairs,
+        );
+        if next == MISFIT {
+            return MISFIT;
+        }
         let s = symbol_at(vtext, vtable, vn, next);
-        let w = symbol_at(ttext, ttable, tn, u.at);
+        let w = symbol_at(ttext, ttable, tn, u.end);
         if both(s, close, w, Symbol::RIGHT_ROUND) {
-            return Fit::Yes(next + 1);
+            return next + 1;
         }
         if !both(s, Symbol::COMMA, w, Symbol::COMMA) {
-            return Fit::No;
+            return MISFIT;
         }
         i = next + 1;
-        j = u.at + 1;
+        j = u.end + 1;
     }
 }
 
-// Whether an answer is yes.
-fn is_yes(f: Fit) -> bool
-    ensures { λ r. ⌜ r ≡ isYes f ⌝ }
-{
-    match f {
-        Fit::Yes(_) => true,
-        Fit::No => false,
-    }
-}
-
-// Whether an answer is yes, and the equals sign of a left side follows.
-fn is_whole(text: &[u8], table: &[u32], n: usize, f: Fit) -> bool
-    requires { ⌜ Holds (now text) (now table) n ⌝ }
-    ensures { λ r. ⌜ r ≡ isWhole (now (text .entry)) (now (table .entry)) n f ⌝ }
-{
-    match f {
-        Fit::Yes(at) => symbol_at(text, table, n, at) == Symbol::EQUAL,
-        Fit::No => false,
-    }
-}
-
-// Whether the value at place v fits the type at place t.
-pub fn fits(
+// Whether the value at place v fits the type at place t, which has these kinds and pairs.
+pub fn fits_item(
     vtext: &[u8],
     vtable: &[u32],
     vn: usize,
@@ -425,16 +299,29 @@ pub fn fits(
     ttable: &[u32],
     tn: usize,
     t: usize,
-) -> bool
+    kinds: u32,
+    pairs: usize,
+) -> usize
     requires { ⌜ Holds (now vtext) (now vtable) vn ⌝ }
     requires { ⌜ Holds (now ttext) (now ttable) tn ⌝ }
-    ensures { λ r. ⌜ ((m : Leaves) (b : ℕ) (x : Value) (us : List Token) (c : ℕ) (u : Ty) (ws : List Token) → value m b (toks (now (vtext .entry)) (now (vtable .entry)) vn v) ≡ ok x us → type c (toks (now (ttext .entry)) (now (ttable .entry)) tn t) ≡ ok u ws → r ≡ fits x u) ⌝ }
+    ensures range { λ r. ⌜ Within vn v r ⌝ }
+    ensures meaning { λ r. ⌜ OfItem (now (vtext .entry)) (now (vtable .entry)) vn v (toks (now (ttext .entry)) (now (ttable .entry)) tn t) kinds pairs r ⌝ }
 {
-    let k = shape_at(ttext, ttable, tn, t).pairs;
-    is_yes(fits_base(vtext, vtable, vn, v, ttext, ttable, tn, t, k))
+    fits_one(vtext, vtable, vn, v, ttext, ttable, tn, t, kinds, pairs)
 }
 
-// Whether the left side at place `at` matches the base at place t under k pairs of square brackets.
+// Whether an answer is a place, and the equals sign of a left side follows.
+fn is_whole(text: &[u8], table: &[u32], n: usize, next: usize) -> bool
+    requires { ⌜ Holds (now text) (now table) n ⌝ }
+    ensures { λ r. ⌜ r ≡ isWhole (now (text .entry)) (now (table .entry)) n next ⌝ }
+{
+    if next == MISFIT {
+        return false;
+    }
+    symbol_at(text, table, n, next) == Symbol::EQUAL
+}
+
+// Whether the left side at place `at` matches the base at place t, of these kinds, under k pairs of square brackets.
 fn matches_one(
     dtext: &[u8],
     dtable: &[u32],
@@ -444,13 +331,15 @@ fn matches_one(
     ltable: &[u32],
     ln: usize,
     t: usize,
+    kinds: u32,
     k: usize,
 ) -> bool
     requires { ⌜ Holds (now dtext) (now dtable) dn ⌝ }
     requires { ⌜ Holds (now ltext) (now ltable) ln ⌝ }
-    ensures { λ r. ⌜ ((c : ℕ) (w : Ty) (ws : List Token) → IsBase c (toks (now (ltext .entry)) (now (ltable .entry)) ln t) w ws → OfLeft (now (dtext .entry)) (now (dtable .entry)) dn at (stacked k w) r) ⌝ }
+    ensures { λ r. ⌜ ((c : ℕ) (w : Ty) (ws : List Token) → BaseOf kinds c (toks (now (ltext .entry)) (now (ltable .entry)) ln t) w ws
+        → OfLeft (now (dtext .entry)) (now (dtable .entry)) dn at (stacked k w) r) ⌝ }
 {
-    let whole = fits_base(dtext, dtable, dn, at, ltext, ltable, ln, t, k);
+    let whole = fits_base(dtext, dtable, dn, at, ltext, ltable, ln, t, kinds, k);
     if is_whole(dtext, dtable, dn, whole) {
         return true;
     }
@@ -461,7 +350,7 @@ fn matches_one(
         return false;
     }
     let close = Symbol::EQUAL;
-    is_yes(fits_each(dtext, dtable, dn, at, close, ltext, ltable, ln, t + 1, 0))
+    fits_each(dtext, dtable, dn, at, close, ltext, ltable, ln, t + 1, 0) != MISFIT
 }
 
 // Whether the left side at place `at` is a tuple in brackets that matches the results at place `results`.
@@ -478,7 +367,8 @@ fn matches_bracketed(
     requires { ⌜ Holds (now dtext) (now dtable) dn ⌝ }
     requires { ⌜ Holds (now ltext) (now ltable) ln ⌝ }
     requires { ⌜ results ≤ ln ⌝ }
-    ensures { λ r. ⌜ ((c : ℕ) (cs : Tys) (ws : List Token) → Columns 2 c (toks (now (ltext .entry)) (now (ltable .entry)) ln results) cs ws → OfWhole (now (dtext .entry)) (now (dtable .entry)) dn at (tupleOf cs) r) ⌝ }
+    ensures { λ r. ⌜ ((c : ℕ) (cs : Tys) (ws : List Token) → Columns 2 c (toks (now (ltext .entry)) (now (ltable .entry)) ln results) cs ws
+        → OfWhole (now (dtext .entry)) (now (dtable .entry)) dn at (tupleOf cs) r) ⌝ }
 {
     if symbol_at(dtext, dtable, dn, at) != Symbol::LEFT_ROUND {
         return false;
@@ -513,16 +403,18 @@ fn matches_several(
     requires { ⌜ Holds (now dtext) (now dtable) dn ⌝ }
     requires { ⌜ Holds (now ltext) (now ltable) ln ⌝ }
     requires { ⌜ results ≤ ln ⌝ }
-    ensures { λ r. ⌜ ((c : ℕ) (cs : Tys) (ws : List Token) → Columns 2 c (toks (now (ltext .entry)) (now (ltable .entry)) ln results) cs ws → Several cs → OfLeft (now (dtext .entry)) (now (dtable .entry)) dn at (tupleOf cs) r) ⌝ }
+    ensures { λ r. ⌜ ((c : ℕ) (cs : Tys) (ws : List Token) → Columns 2 c (toks (now (ltext .entry)) (now (ltable .entry)) ln results) cs ws → Several cs
+        → OfLeft (now (dtext .entry)) (now (dtable .entry)) dn at (tupleOf cs) r) ⌝ }
 {
     if matches_bracketed(dtext, dtable, dn, at, ltext, ltable, ln, results) {
         return true;
     }
     let close = Symbol::EQUAL;
-    is_yes(fits_each(dtext, dtable, dn, at, close, ltext, ltable, ln, results, 2))
+    fits_each(dtext, dtable, dn, at, close, ltext, ltable, ln, results, 2) != MISFIT
 }
 
-// Whether the left side at place `at` of a document matches the results at place `results` of an operation list.
+// Whether the left side at place `at` of a document matches the results at place `results` of an operation list. `code` is the number of
+// the only result's type, or `SEVERAL`.
 pub fn matches(
     dtext: &[u8],
     dtable: &[u32],
@@ -532,18 +424,48 @@ pub fn matches(
     ltable: &[u32],
     ln: usize,
     results: usize,
+    code: u32,
 ) -> bool
     requires { ⌜ Holds (now dtext) (now dtable) dn ⌝ }
     requires { ⌜ Holds (now ltext) (now ltable) ln ⌝ }
-    ensures { λ r. ⌜ ((b : ℕ) (x : Value) (us : List Token) (c : ℕ) (rs : List Result) (ws : List Token) → left b (toks (now (dtext .entry)) (now (dtable .entry)) dn at) ≡ ok x us → row plain (commas rightRound) (result c) (toks (now (ltext .entry)) (now (ltable .entry)) ln results) ≡ ok rs ws → r ≡ fits x (resultType rs)) ⌝ }
+    ensures { λ r. ⌜ OfResults (now (dtext .entry)) (now (dtable .entry)) dn at (toks (now (ltext .entry)) (now (ltable .entry)) ln results) code r ⌝ }
 {
     if ln <= results {
         return false;
     }
-    let t = results + 2;
-    let u = shape_at(ltext, ltable, ln, t);
-    if symbol_at(ltext, ltable, ln, u.at) == Symbol::COMMA {
+    if code == SEVERAL {
         return matches_several(dtext, dtable, dn, at, ltext, ltable, ln, results);
     }
-    matches_one(dtext, dtable, dn, at, ltext, ltable, ln, t, u.pairs)
+    let kinds = kinds_in(code);
+    matches_one(
+        dtext,
+        dtable,
+        dn,
+        at,
+        ltext,
+        ltable,
+        ln,
+        results + 2,
+        kinds,
+        pairs_in(code),
+    )
+}
+
+// The pairs of square brackets of a type, and the place after it.
+pub struct Shape {
+    pub pairs: usize,
+    pub at: usize,
+}
+
+// The shape of the type at place `at`.
+pub fn shape_at(text: &[u8], table: &[u32], n: usize, at: usize) -> Shape
+    requires { ⌜ Holds (now text) (now table) n ⌝ }
+    ensures range { λ r. ⌜ r .at ≤ n + 1 ⌝ }
+    ensures meaning { λ r. ⌜ OfShape (now (text .entry)) (now (table .entry)) n at (r .pairs) (r .at) ⌝ }
+{
+    let u = type_of(text, table, n, at);
+    Shape {
+        pairs: u.pairs,
+        at: u.end,
+    }
 }

@@ -1,40 +1,101 @@
-// The rules of an operation list: codes 12, 13 and 14.
+// The rules of an operation list, codes 12, 13 and 14, and its directory, in one walk over the headers.
 use crate::best::Best;
 use crate::code::Code;
-use crate::fitting::fits;
-use crate::names::repeated;
-use crate::operation::Lookup;
-use crate::operation::find;
-use crate::scan::next_of;
-use crate::scan::over;
+use crate::directory::Name;
+use crate::directory::store_operation;
+use crate::directory::store_parameter;
+use crate::fitting::fits_item;
+use crate::mask::extended;
+use crate::types::SEVERAL;
+use crate::types::TypeAt;
+use crate::types::type_of;
 use crate::word::start_at;
-use crate::word::word;
+use index::enter;
+use index::set_word;
+use index::word_of;
 use lexis::limits::Limits;
 use lexis::symbol::Symbol;
 use syntax::Parsed;
 use syntax::symbol::place_at;
 use syntax::symbol::symbol_at;
-use syntax::types::type_at;
+use syntax::value::Leaves;
+use syntax::value::value;
 ghost use mathlib.Core.Path.{_≡_};
-ghost use mathlib.Core.Bool.{false};
-ghost use mathlib.Core.List.{List, [], _∷_, map};
+ghost use mathlib.Core.Bool.{Bool};
+ghost use mathlib.Core.List.{List, [], _∷_, _++_};
 ghost use mathlib.Core.Option.{some};
-ghost use mathlib.Core.Option.{none as nothing};
-ghost use Prim.Native.Nat.{ℕ, _-_, _*_, _<_, _≤_};
-ghost use lib.ListN.{length, getD, take};
-ghost use Rattle.lexis.specs.Sizes.{maxText, maxBrackets, maxOperations, recordWords};
+ghost use Prim.Native.Nat.{_+_, _<_, _≤_};
+ghost use lib.ListN.{length};
+ghost use Rattle.lexis.specs.Sizes.{maxText, maxTokens, maxBrackets, maxParameters};
 ghost use Rattle.lexis.specs.Lexer.{Token};
-ghost use Rattle.lexis.specs.Symbol.{aName};
-ghost use Rattle.syntax.specs.Tree.{Param, Header};
-ghost use Rattle.syntax.specs.Parser.{param, header};
+ghost use Rattle.syntax.specs.Tree.{Value, Result};
+ghost use Rattle.syntax.specs.Grammar.{literals};
+ghost use Rattle.syntax.specs.Parser.{value, header, operations};
 ghost use Rattle.syntax.specs.Parser.Parse.{ok};
-ghost use Rattle.syntax.specs.Table.{startAt, tokenAt, toks, placeOf, Holds};
+ghost use Rattle.syntax.specs.Table.{toks, placeOf, Holds};
 ghost use Rattle.lists.specs.Code as C;
-ghost use Rattle.lists.specs.Fault.{fault, faults, starts, first};
-ghost use Rattle.lists.specs.Best.{meant};
-ghost use Rattle.lists.specs.Names.{repeatsAfter};
-ghost use Rattle.lists.specs.ListRules.{over, badDefault, listFaults};
-ghost use Rattle.lists.specs.Lists.{isA, Params, defaultFaults, headerFaults, endsHeader, Heads, NamePlaces, entries};
+ghost use Rattle.lists.specs.Fault.{fault};
+ghost use Rattle.lists.specs.Best.{clean, meant};
+ghost use Rattle.lists.specs.Masks.{maskOf};
+ghost use Rattle.lists.specs.Types.{resultCode};
+ghost use Rattle.index.specs.Indexed.{Walkable};
+ghost use Rattle.lists.specs.Headers.{Reads, paramRow, resultRow, Roomy, Ready, Marks, Numbers, OfDefault, OfParameter, OfParameters, OfResult};
+ghost use Rattle.lists.specs.Headers.{OfResults, OfHeader, OfHeaders, Carried, emptyRow, onwardRow};
+
+// Where the walk along a header has come to: the first fault, the place it goes on at, how many items of the row it has met, how many parameters of the list
+// there are, and the mask of those of the row without a default.
+pub struct Row {
+    pub best: Best,
+    pub at: usize,
+    pub index: usize,
+    pub params: usize,
+    pub required: u32,
+}
+
+// The default of a parameter: its place, or 0 where there is none, the place after it, and its fault.
+pub struct Default {
+    pub at: usize,
+    pub end: usize,
+    pub best: Best,
+}
+
+// The first fault of a list, and how many operations it has.
+pub struct Ruled {
+    pub best: Best,
+    pub count: usize,
+}
+
+// ---- names
+
+// Whether the name at place i is among those of header k, among which it then is.
+fn named(text: &[u8], table: &[u32], n: usize, index: &mut [u16], i: usize, k: usize) -> bool
+    requires { ⌜ Holds (now text) (now table) n ⌝ }
+    requires { ⌜ (i < n) × (n ≤ maxTokens) × (k ≤ n) ⌝ }
+    requires { ⌜ Walkable (now index) i n ⌝ }
+    ensures walkable { λ _. ⌜ Walkable (now (index .exit)) (i + 1) n ⌝ }
+    ensures meaning { λ r. ⌜ Marks (now (text .entry)) (now (table .entry)) (now (index .entry)) (now (index .exit)) i k r ⌝ }
+{
+    let p = enter(text, table, n, &mut *index, i);
+    let again = word_of(index, p, Name::HEADER) == k;
+    set_word(index, p, Name::HEADER, k);
+    again
+}
+
+// Whether the name at place i is among those of the k operations before it, to which it is added.
+fn operation(text: &[u8], table: &[u32], n: usize, index: &mut [u16], i: usize, k: usize) -> bool
+    requires { ⌜ Holds (now text) (now table) n ⌝ }
+    requires { ⌜ (i < n) × (n ≤ maxTokens) × (k ≤ n) ⌝ }
+    requires { ⌜ Walkable (now index) i n ⌝ }
+    ensures walkable { λ _. ⌜ Walkable (now (index .exit)) (i + 1) n ⌝ }
+    ensures meaning { λ r. ⌜ Numbers (now (text .entry)) (now (table .entry)) (now (index .entry)) (now (index .exit)) i k r ⌝ }
+{
+    let p = enter(text, table, n, &mut *index, i);
+    if word_of(index, p, Name::OPERATION) != 0 {
+        return true;
+    }
+    set_word(index, p, Name::OPERATION, k + 1);
+    false
+}
 
 // ---- one parameter
 
@@ -51,117 +112,287 @@ fn misfit_at(text: &[u8], table: &[u32], n: usize, i: usize) -> Best
     }
 }
 
-// The fault of the parameter whose name stands at place i, if it has a default that does not fit its type: code 14. Another token has
-// none.
-fn default_at(text: &[u8], table: &[u32], n: usize, i: usize) -> Best
+// The place after the value without names at place v.
+fn value_end(text: &[u8], table: &[u32], n: usize, v: usize) -> usize
     requires { ⌜ Holds (now text) (now table) n ⌝ }
-    requires { ⌜ length (now text) ≤ maxText ⌝ }
-    requires { ⌜ i < n ⌝ }
-    ensures parameter { λ r. ⌜ ((p : Param) (us : List Token) → param maxBrackets (toks (now (text .entry)) (now (table .entry)) n i) ≡ ok p us → meant r ≡ first (badDefault (p .ty) (p .default))) ⌝ }
-    ensures other { λ r. ⌜ (isA aName (tokenAt (now (text .entry)) (now (table .entry)) i) ≡ false → meant r ≡ nothing) ⌝ }
+    ensures { λ r. ⌜ ((x : Value) (us : List Token) → value literals maxBrackets (toks (now (text .entry)) (now (table .entry)) n v) ≡ ok x us
+        → us ≡ toks (now (text .entry)) (now (table .entry)) n r) ⌝ }
 {
-    if symbol_at(text, table, n, i) != Symbol::NAME {
-        return Best::none();
-    }
-    let typed = type_at(text, table, n, i + 2, Limits::BRACKETS);
-    let Parsed::Done(next) = typed else {
-        return Best::none();
+    let Parsed::Done(end) = value(text, table, n, v, Leaves::Literals, Limits::BRACKETS) else {
+        return n;
     };
-    if symbol_at(text, table, n, next) != Symbol::EQUAL {
-        return Best::none();
-    }
-    if fits(text, table, n, next + 1, text, table, n, i + 2) {
-        return Best::none();
-    }
-    misfit_at(text, table, n, next + 1)
+    end
 }
 
-// The first default that does not fit, of the parameters from place `from` up to `to`.
-fn defaults(text: &[u8], table: &[u32], n: usize, from: usize, to: usize) -> Best
+// The default after the type ty, which stands at place t.
+fn default_of(text: &[u8], table: &[u32], n: usize, t: usize, ty: TypeAt) -> Default
     requires { ⌜ Holds (now text) (now table) n ⌝ }
-    requires { ⌜ length (now text) ≤ maxText ⌝ }
-    requires { ⌜ (from ≤ to) × (to ≤ n) ⌝ }
-    ensures { λ r. ⌜ ((ps : List Param) → Params (toks (now (text .entry)) (now (table .entry)) n from) ps (toks (now (text .entry)) (now (table .entry)) n to) → meant r ≡ first (defaultFaults ps)) ⌝ }
+    requires { ⌜ (length (now text) ≤ maxText) × (ty .end ≤ n + 1) × (n ≤ maxTokens) ⌝ }
+    ensures range { λ r. ⌜ r .at ≤ n ⌝ }
+    ensures meaning { λ r. ⌜ OfDefault (now (text .entry)) (now (table .entry)) n t ty r ⌝ }
 {
-    let mut best = Best::none();
-    let mut i = from;
-    while i < to {
-        best = best.earlier(default_at(text, table, n, i));
-        i += 1;
+    let end = ty.end;
+    if symbol_at(text, table, n, end) != Symbol::EQUAL {
+        return Default {
+            at: 0,
+            end: end,
+            best: Best::none(),
+        };
     }
-    best
+    let v = end + 1;
+    let next = fits_item(text, table, n, v, text, table, n, t, ty.kinds, ty.pairs);
+    if 0 < next {
+        return Default {
+            at: v,
+            end: next,
+            best: Best::none(),
+        };
+    }
+    Default {
+        at: v,
+        end: value_end(text, table, n, v),
+        best: misfit_at(text, table, n, v),
+    }
 }
 
-// ---- one header
+// The mask of k parameters without a default, with one parameter more. There is none for more parameters than an operation may have.
+fn required(mask: u32, k: usize, is_in: bool) -> u32
+    ensures { λ r. ⌜ ((bs : List Bool) → mask ≡ maskOf bs → length bs ≡ k → k < maxParameters → r ≡ maskOf (bs ++ (is_in ∷ []))) ⌝ }
+{
+    if Limits::PARAMETERS <= k {
+        return mask;
+    }
+    extended(mask, k as u32, is_in)
+}
 
-// The first fault of the header whose operation's name stands at place q, by itself: its counts, its names, its defaults.
-fn header_rules(text: &[u8], table: &[u32], n: usize, q: usize) -> Best
+// The parameter at the row's place.
+fn parameter(
+    text: &[u8],
+    table: &[u32],
+    n: usize,
+    k: usize,
+    index: &mut [u16],
+    words: &mut [u32],
+    row: Row,
+) -> Row
+    requires { ⌜ Ready (now text) (now table) (now index) n k row ⌝ }
+    requires { ⌜ Roomy (now words) n ⌝ }
+    requires { ⌜ row .at + 4 ≤ n ⌝ }
+    ensures walkable { λ _. ⌜ Walkable (now (index .exit)) (row .at + 1) n ⌝ }
+    ensures meaning { λ r. ⌜ OfParameter (now (text .entry)) (now (table .entry)) (now (index .entry)) (now (index .exit))
+        (now (words .entry)) (now (words .exit)) n k row r ⌝ }
+{
+    let at = row.at;
+    let again = named(text, table, n, index, at, k);
+    let ty = type_of(text, table, n, at + 2);
+    let d = default_of(text, table, n, at + 2, ty);
+    store_parameter(words, row.params, at as u32, ty.code(), d.at as u32);
+    let place = start_at(table, at);
+    let beyond = row.index == Limits::PARAMETERS;
+    let best = row.best
+        .or_if(beyond, Code::OVER_SIZE, place)
+        .or_if(again, Code::REPEATED_NAME, place);
+    Row {
+        best: best.earlier(d.best),
+        at: d.end,
+        index: row.index + 1,
+        params: row.params + 1,
+        required: required(row.required, row.index, d.at == 0),
+    }
+}
+
+impl Row {
+    // A row of which nothing is met yet.
+    fn empty(best: Best, at: usize, params: usize, required: u32) -> Row
+        ensures { λ r. ⌜ r ≡ emptyRow best at params required ⌝ }
+    {
+        Row {
+            best: best,
+            at: at,
+            index: 0,
+            params: params,
+            required: required,
+        }
+    }
+
+    // One place on.
+    fn onward(self) -> Row
+        requires { ⌜ self .at ≤ maxTokens ⌝ }
+        ensures { λ r. ⌜ r ≡ onwardRow self ⌝ }
+    {
+        let best = self.best;
+        Row {
+            best: best,
+            at: self.at + 1,
+            index: self.index,
+            params: self.params,
+            required: self.required,
+        }
+    }
+}
+
+// The parameters from the row's place on; the row is left after the bracket that closes them.
+fn parameters(
+    text: &[u8],
+    table: &[u32],
+    n: usize,
+    k: usize,
+    index: &mut [u16],
+    words: &mut [u32],
+    row: Row,
+) -> Row
+    requires { ⌜ Ready (now text) (now table) (now index) n k row ⌝ }
+    requires { ⌜ Roomy (now words) n ⌝ }
+    requires { ⌜ Reads paramRow (now text) (now table) n (row .at) ⌝ }
+    ensures ready { λ r. ⌜ Ready (now (text .entry)) (now (table .entry)) (now (index .exit)) n k r ⌝ }
+    ensures meaning { λ r. ⌜ OfParameters (now (text .entry)) (now (table .entry)) (now (index .entry)) (now (index .exit))
+        (now (words .entry)) (now (words .exit)) n k row r ⌝ }
+{
+    let mut r = row;
+    loop {
+        r = parameter(text, table, n, k, &mut *index, &mut *words, r);
+        if symbol_at(text, table, n, r.at) != Symbol::COMMA {
+            return r.onward();
+        }
+        r = r.onward();
+    }
+}
+
+// ---- results
+
+// The result at the row's place.
+fn result(text: &[u8], table: &[u32], n: usize, k: usize, index: &mut [u16], row: Row) -> Row
+    requires { ⌜ Ready (now text) (now table) (now index) n k row ⌝ }
+    requires { ⌜ row .at < n ⌝ }
+    ensures walkable { λ _. ⌜ Walkable (now (index .exit)) (row .at + 1) n ⌝ }
+    ensures carried { λ r. ⌜ Carried row r ⌝ }
+    ensures meaning { λ r. ⌜ OfResult (now (text .entry)) (now (table .entry)) (now (index .entry)) (now (index .exit)) n k row r ⌝ }
+{
+    let at = row.at;
+    let again = named(text, table, n, index, at, k);
+    let ty = type_of(text, table, n, at + 2);
+    let place = start_at(table, at);
+    let beyond = row.index == Limits::RESULTS;
+    Row {
+        best: row.best
+            .or_if(beyond, Code::OVER_SIZE, place)
+            .or_if(again, Code::REPEATED_NAME, place),
+        at: ty.end,
+        index: row.index + 1,
+        params: row.params,
+        required: row.required,
+    }
+}
+
+// The results from the row's place on; the row is left after the bracket that closes them.
+fn results(text: &[u8], table: &[u32], n: usize, k: usize, index: &mut [u16], row: Row) -> Row
+    requires { ⌜ Ready (now text) (now table) (now index) n k row ⌝ }
+    requires { ⌜ Reads resultRow (now text) (now table) n (row .at) ⌝ }
+    ensures ready { λ r. ⌜ Ready (now (text .entry)) (now (table .entry)) (now (index .exit)) n k r ⌝ }
+    ensures carried { λ r. ⌜ Carried row r ⌝ }
+    ensures meaning { λ r. ⌜ OfResults (now (text .entry)) (now (table .entry)) (now (index .entry)) (now (index .exit)) n k row r ⌝ }
+{
+    let mut r = row;
+    loop {
+        r = result(text, table, n, k, &mut *index, r);
+        if symbol_at(text, table, n, r.at) != Symbol::COMMA {
+            return r.onward();
+        }
+        r = r.onward();
+    }
+}
+
+// The number of the type of the only one of the results from place `from` on, or the one for several.
+fn result_code(text: &[u8], table: &[u32], n: usize, from: usize, count: usize) -> u32
     requires { ⌜ Holds (now text) (now table) n ⌝ }
-    requires { ⌜ length (now text) ≤ maxText ⌝ }
-    requires { ⌜ (q < n) × (0 < q) ⌝ }
-    ensures { λ r. ⌜ ((h : Header) (us : List Token) → header maxBrackets (toks (now (text .entry)) (now (table .entry)) n (q - 1)) ≡ ok h us → endsHeader us → meant r ≡ first (headerFaults h)) ⌝ }
+    requires { ⌜ (n ≤ maxTokens) × (from ≤ n) ⌝ }
+    ensures { λ r. ⌜ ((rs : List Result) (us : List Token) → resultRow (toks (now (text .entry)) (now (table .entry)) n from) ≡ ok rs us
+        → count ≡ length rs → r ≡ resultCode rs) ⌝ }
 {
-    let arrow = next_of(text, table, n, q + 1, Symbol::ARROW);
-    let end = next_of(text, table, n, arrow, Symbol::FRAGMENT);
-    let parameters = over(text, table, arrow, q + 1, Symbol::NAME, Limits::PARAMETERS);
-    let results = over(text, table, end, arrow, Symbol::NAME, Limits::RESULTS);
-    let repeats = repeated(text, table, end, q + 1, end, Code::REPEATED_NAME);
-    let misfits = defaults(text, table, n, q + 1, arrow);
-    parameters
-        .earlier(results)
-        .earlier(repeats)
-        .earlier(misfits)
+    if count != 1 {
+        return SEVERAL;
+    }
+    type_of(text, table, n, from + 2).code()
 }
 
-// ---- all headers
+// ---- headers
 
-// The fault of the k-th operation, if its name repeats that of one before: code 13.
-fn repeat_of(text: &[u8], table: &[u32], n: usize, names: &[u32], k: usize) -> Best
-    requires { ⌜ Holds (now text) (now table) n ⌝ }
-    requires { ⌜ NamePlaces n (now names) ⌝ }
-    requires { ⌜ k < length (now names) ⌝ }
-    ensures { λ r. ⌜ meant r ≡ first (faults C.repeatedName (starts (repeatsAfter (entries (now (text .entry)) (now (table .entry)) (take k (now (names .entry)))) (tokenAt (now (text .entry)) (now (table .entry)) (getD (now (names .entry)) k 0) ∷ [])))) ⌝ }
+// Header k, at the row's place.
+fn header(
+    text: &[u8],
+    table: &[u32],
+    n: usize,
+    k: usize,
+    index: &mut [u16],
+    words: &mut [u32],
+    row: Row,
+) -> Row
+    requires { ⌜ Ready (now text) (now table) (now index) n k row ⌝ }
+    requires { ⌜ Roomy (now words) n ⌝ }
+    requires { ⌜ Reads (header maxBrackets) (now text) (now table) n (row .at) ⌝ }
+    ensures ready { λ r. ⌜ Ready (now (text .entry)) (now (table .entry)) (now (index .exit)) n (k + 1) r ⌝ }
+    ensures meaning { λ r. ⌜ OfHeader (now (text .entry)) (now (table .entry)) (now (index .entry)) (now (index .exit))
+        (now (words .entry)) (now (words .exit)) n k row r ⌝ }
 {
-    let q = word(names, k);
-    let Lookup::At(_k) = find(text, table, n, &names[0..k], text, table, n, q) else {
-        return Best::none();
-    };
-    Best {
-        at: start_at(table, q),
-        code: Code::REPEATED_NAME,
-        detail: 0,
-    }
+    let q = row.at + 1;
+    let again = operation(text, table, n, &mut *index, q, k);
+    let beyond = row.best.or_if(
+        k == Limits::OPERATIONS,
+        Code::OVER_SIZE,
+        start_at(table, row.at),
+    );
+    let best = beyond.or_if(again, Code::REPEATED_NAME, start_at(table, q));
+    let ps = parameters(
+        text,
+        table,
+        n,
+        k + 1,
+        &mut *index,
+        &mut *words,
+        Row::empty(best, q + 2, row.params, 0),
+    );
+    let from = ps.at + 2;
+    let rs = results(
+        text,
+        table,
+        n,
+        k + 1,
+        index,
+        Row::empty(ps.best, from, ps.params, ps.required),
+    );
+    let code = result_code(text, table, n, from, rs.index);
+    store_operation(
+        words,
+        k,
+        q as u32,
+        row.params as u32,
+        rs.params as u32,
+        rs.required,
+        from as u32,
+        code,
+    );
+    Row::empty(rs.best, rs.at, rs.params, 0)
 }
 
-// More than 128 operations: code 12 at the word `fragment` of the first beyond.
-fn too_many(table: &[u32], n: usize, names: &[u32]) -> Best
-    requires { ⌜ n * recordWords ≤ length (now table) ⌝ }
-    requires { ⌜ NamePlaces n (now names) ⌝ }
-    ensures { λ r. ⌜ meant r ≡ first (over maxOperations (map (λ q. startAt (now (table .entry)) (q - 1)) (now (names .entry)))) ⌝ }
+// All headers of a list.
+pub fn headers(text: &[u8], table: &[u32], n: usize, index: &mut [u16], words: &mut [u32]) -> Ruled
+    requires { ⌜ Ready (now text) (now table) (now index) n 0 (emptyRow clean 0 0 0) ⌝ }
+    requires { ⌜ Roomy (now words) n ⌝ }
+    requires { ⌜ Reads (operations maxBrackets) (now text) (now table) n 0 ⌝ }
+    ensures walkable { λ _. ⌜ Walkable (now (index .exit)) n n ⌝ }
+    ensures few { λ r. ⌜ r .count ≤ n ⌝ }
+    ensures meaning { λ r. ⌜ OfHeaders (now (text .entry)) (now (table .entry)) (now (index .entry)) (now (index .exit))
+        (now (words .entry)) (now (words .exit)) n 0 (emptyRow clean 0 0 0) r ⌝ }
 {
-    if Limits::operations_fit(names.len()) {
-        return Best::none();
-    }
-    Best {
-        at: start_at(table, word(names, Limits::OPERATIONS) - 1),
-        code: Code::OVER_SIZE,
-        detail: 0,
-    }
-}
-
-// The first fault of an operation list, whose directory is `names`.
-pub fn list_rules(text: &[u8], table: &[u32], n: usize, names: &[u32]) -> Best
-    requires { ⌜ Holds (now text) (now table) n ⌝ }
-    requires { ⌜ length (now text) ≤ maxText ⌝ }
-    requires { ⌜ NamePlaces n (now names) ⌝ }
-    ensures { λ r. ⌜ ((hs : List Header) → Heads (now (text .entry)) (now (table .entry)) n maxBrackets (now (names .entry)) hs → meant r ≡ first (listFaults hs)) ⌝ }
-{
-    let mut best = too_many(table, n, names);
     let mut k = 0;
-    while k < names.len() {
-        let own = header_rules(text, table, n, word(names, k));
-        best = best.earlier(repeat_of(text, table, n, names, k).earlier(own));
+    let mut r = Row::empty(Best::none(), 0, 0, 0);
+    while r.at < n {
+        r = header(text, table, n, k, &mut *index, &mut *words, r);
         k += 1;
     }
-    best
+    let best = r.best;
+    Ruled {
+        best: best,
+        count: k,
+    }
 }

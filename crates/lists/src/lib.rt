@@ -1,14 +1,17 @@
 // Operation lists: their rules, and the operation that checks one.
 pub mod best;
 pub mod code;
+pub mod directory;
 pub mod fitting;
 mod headers;
 pub mod list;
-pub mod names;
+pub mod mask;
 pub mod operation;
 pub mod scan;
+pub mod types;
 pub mod word;
 
+use directory::Room;
 use lexis::Answer;
 use lexis::class::CLASSES;
 use lexis::code::Code;
@@ -18,7 +21,7 @@ use list::list_stages;
 ghost use mathlib.Core.Path.{_≡_};
 ghost use Prim.Native.Nat.{_≤_};
 ghost use lib.ListN.{length, replicate};
-ghost use Rattle.lexis.specs.Sizes.{maxText, maxTokens, workWords};
+ghost use Rattle.lexis.specs.Sizes.{maxText, workWords};
 ghost use Rattle.lists.specs.Answer.{listStages, stageAnswer, declarationsAnswer, workAfter};
 
 // The operation: whether an operation list is well formed, and how many operations it has. After any answer but a refusal of what is
@@ -56,8 +59,9 @@ fn list_answer(list: &[u8], work: &mut [u32]) -> Answer
     ensures { λ _. ⌜ length (now (work .exit)) ≡ length (now (work .entry)) ⌝ }
 {
     let classes = CLASSES;
-    let mut names = [0u32; Limits::TOKENS];
-    match list_stages(&classes, list, work, &mut names) {
+    let mut index = [0u16; Room::INDEX];
+    let mut words = [0u32; Room::WORDS];
+    match list_stages(&classes, list, work, &mut index, &mut words) {
         Listed::Passed(_n, k) => Answer {
             code: Code::ACCEPTED,
             text: 0,

@@ -1,4 +1,5 @@
 // The operations of a list: a directory of their names, and the look-up of a name there.
+use crate::directory::Lookup;
 use crate::scan::next_of;
 use crate::word::alike;
 use crate::word::word;
@@ -12,12 +13,6 @@ ghost use Rattle.syntax.specs.Tree.{Header};
 ghost use Rattle.syntax.specs.Table.{tokenAt, Holds};
 ghost use Rattle.lists.specs.Lists.{HasList, Heads, NamePlaces, Directory, lookupFrom, entries};
 ghost use Rattle.lists.specs.Found.{found};
-
-// Where an operation stands in the directory.
-pub enum Lookup {
-    At(usize),
-    Missing,
-}
 
 // Stores the place of each operation's name, and gives their number.
 pub fn directory(text: &[u8], table: &[u32], n: usize, names: &mut [u32]) -> usize
@@ -51,8 +46,12 @@ pub fn find(
     requires { ⌜ NamePlaces n (now names) ⌝ }
     requires { ⌜ Holds (now text2) (now table2) n2 ⌝ }
     requires { ⌜ b < n2 ⌝ }
-    ensures spelt { λ r. ⌜ r ≡ lookupFrom 0 (entries (now (text .entry)) (now (table .entry)) (now (names .entry))) (tokenAt (now (text2 .entry)) (now (table2 .entry)) b) ⌝ }
-    ensures trees { λ r. ⌜ ((d : ℕ) (hs : List Header) → Heads (now (text .entry)) (now (table .entry)) n d (now (names .entry)) hs → r ≡ found hs (tokenAt (now (text2 .entry)) (now (table2 .entry)) b)) ⌝ }
+    ensures spelt { λ r. ⌜ r ≡ lookupFrom 0 (entries (now (text .entry)) (now (table .entry)) (now (names .entry)))
+        (tokenAt (now (text2 .entry)) (now (table2 .entry)) b) ⌝ }
+    ensures trees { λ r. ⌜
+        ((d : ℕ) (hs : List Header) → Heads (now (text .entry)) (now (table .entry)) n d (now (names .entry)) hs
+        → r ≡ found hs (tokenAt (now (text2 .entry)) (now (table2 .entry)) b))
+        ⌝ }
 {
     let mut k = 0;
     while k < names.len() {

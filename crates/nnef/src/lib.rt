@@ -32,9 +32,16 @@ pub extern "C" fn nnef_check(
     calls: &mut [u32],
     wires: &mut [u32],
 ) -> Answer
-    ensures { λ r. ⌜ r ≡ checkAnswer (now (list .entry)) (now (document .entry)) (checkRoom (now (work1 .entry)) (now (work2 .entry)) (now (calls .entry)) (now (wires .entry))) ⌝ }
-    ensures { λ _. ⌜ now (calls .exit) ≡ callsAfter (checked (now (list .entry)) (now (document .entry)) (checkRoom (now (work1 .entry)) (now (work2 .entry)) (now (calls .entry)) (now (wires .entry)))) (now (calls .entry)) ⌝ }
-    ensures { λ _. ⌜ now (wires .exit) ≡ wiresAfter (checked (now (list .entry)) (now (document .entry)) (checkRoom (now (work1 .entry)) (now (work2 .entry)) (now (calls .entry)) (now (wires .entry)))) (now (wires .entry)) ⌝ }
+    ensures { λ r. ⌜ r ≡ checkAnswer (now (list .entry)) (now (document .entry))
+        (checkRoom (now (work1 .entry)) (now (work2 .entry)) (now (calls .entry)) (now (wires .entry))) ⌝ }
+    ensures { λ _. ⌜ now (calls .exit) ≡ callsAfter
+        (checked (now (list .entry)) (now (document .entry))
+        (checkRoom (now (work1 .entry)) (now (work2 .entry)) (now (calls .entry)) (now (wires .entry))))
+        (now (calls .entry)) ⌝ }
+    ensures { λ _. ⌜ now (wires .exit) ≡ wiresAfter
+        (checked (now (list .entry)) (now (document .entry))
+        (checkRoom (now (work1 .entry)) (now (work2 .entry)) (now (calls .entry)) (now (wires .entry))))
+        (now (wires .entry)) ⌝ }
     ensures { λ r. ⌜ now (work1 .exit) ≡ workAfter r (now (work1 .entry)) ⌝ }
     ensures { λ r. ⌜ now (work2 .exit) ≡ workAfter r (now (work2 .entry)) ⌝ }
 {
@@ -50,7 +57,9 @@ pub extern "C" fn nnef_canon(
     out: &mut [u8],
 ) -> Answer
     ensures { λ r. ⌜ r ≡ canonAnswer (now (list .entry)) (now (document .entry)) (canonRoom (now (work1 .entry)) (now (work2 .entry)) (now (out .entry))) ⌝ }
-    ensures { λ _. ⌜ now (out .exit) ≡ outputAfter (written (now (list .entry)) (now (document .entry)) (canonRoom (now (work1 .entry)) (now (work2 .entry)) (now (out .entry)))) (now (out .entry)) ⌝ }
+    ensures { λ _. ⌜ now (out .exit) ≡ outputAfter
+        (written (now (list .entry)) (now (document .entry)) (canonRoom (now (work1 .entry)) (now (work2 .entry)) (now (out .entry)))) (now (out .entry))
+        ⌝ }
     ensures { λ r. ⌜ now (work1 .exit) ≡ workAfter r (now (work1 .entry)) ⌝ }
     ensures { λ r. ⌜ now (work2 .exit) ≡ workAfter r (now (work2 .entry)) ⌝ }
 {

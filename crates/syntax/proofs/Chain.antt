@@ -58,7 +58,8 @@ mapped-same e n f (ok a us) = refl
 mapped-same e n f (bad c us) = refl
 
 module _ (text table : List ℕ) (e n i : ℕ) where
-  pub chain : {A B : Type 0} {p : Parse A} (k : A → List Token → Parse B) (gs : List (ℕ → Parsed)) → Takes (toks text table n i) p → ((a : A) (j : ℕ) → parsed e n (k a (toks text table n j)) ≡ steps (Done j) gs) → parsed e n (then p k) ≡ steps (parsed e n p) gs
+  pub chain : {A B : Type 0} {p : Parse A} (k : A → List Token → Parse B) (gs : List (ℕ → Parsed)) → Takes (toks text table n i) p
+      → ((a : A) (j : ℕ) → parsed e n (k a (toks text table n j)) ≡ steps (Done j) gs) → parsed e n (then p k) ≡ steps (parsed e n p) gs
   chain k gs (took {a = a} {us = us} h) f = ap (λ (ws : List Token). parsed e n (k a ws)) (toks-suffix text table n i h) ∙ f a (n - length us)
   chain k gs (fault {c = c} {us = us} h) f = steps-fault c (placeOf e us) gs
 
@@ -77,7 +78,8 @@ reaches e n (ok a us) {j = j} w d =
 reaches e n (bad c us) w d = no-fault (sym w ∙ d)
 
 -- two steps that each go forward
-pub both-past : {i k n : ℕ} (y : Parsed) {x : Parsed} (g : ℕ → Parsed) → x ≡ onwards y g → x ≡ Done k → ((j : ℕ) → y ≡ Done j → i < j) → ((j k : ℕ) → g j ≡ Done k → (j < k) × (k ≤ n)) → (i < k) × (k ≤ n)
+pub both-past : {i k n : ℕ} (y : Parsed) {x : Parsed} (g : ℕ → Parsed) → x ≡ onwards y g → x ≡ Done k → ((j : ℕ) → y ≡ Done j → i < j)
+    → ((j k : ℕ) → g j ≡ Done k → (j < k) × (k ≤ n)) → (i < k) × (k ≤ n)
 both-past {k = k} (Done j) g p d f h = let a = f j refl in let b = h j k (sym p ∙ d) in (omega arith, b .1)
 both-past (Fault c q) g p d f h = no-fault (sym p ∙ d)
 

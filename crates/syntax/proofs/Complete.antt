@@ -13,7 +13,8 @@ use Rattle.lexis.specs.Symbol.{symOf, isLiteral, leftRound, rightRound, leftSqu
 use Rattle.syntax.specs.Tree.{Value, Values, Ty, Tys, Param, Result, Header, Arg, Call, Document}
 use Rattle.syntax.specs.Tree.Value.{name, literal, array, tuple}
 use Rattle.syntax.specs.Tree.Arg.{positional}
-use Rattle.syntax.specs.Grammar.{Separated, Leaves, takesNames, takesLiterals, Spells, Items, IsTypeName, Dims, IsType, IsTypes, IsDefault, IsParam, IsResult, IsHeader, IsList, IsName, IsArg, IsLeft, IsEnd, IsCall, IsBody, IsDocument}
+use Rattle.syntax.specs.Grammar.{Separated, Leaves, takesNames, takesLiterals, Spells, Items, IsTypeName, Dims, IsType, IsTypes, IsDefault, IsParam}
+use Rattle.syntax.specs.Grammar.{IsResult, IsHeader, IsList, IsName, IsArg, IsLeft, IsEnd, IsCall, IsBody, IsDocument}
 use Rattle.syntax.specs.Grammar.Separated.{last, next}
 use Rattle.syntax.specs.Grammar.Leaves.{names, both}
 use Rattle.syntax.specs.Grammar.Spells.{a-name, a-literal, an-empty-array, an-array, a-tuple}
@@ -34,16 +35,20 @@ use Rattle.syntax.specs.Grammar.IsEnd.{no-semicolon, a-semicolon}
 use Rattle.syntax.specs.Grammar.IsCall.{a-call}
 use Rattle.syntax.specs.Grammar.IsBody.{last-call, next-call}
 use Rattle.syntax.specs.Grammar.IsDocument.{a-document}
-use Rattle.syntax.specs.Parser.{Reader, expect, begins, rest, Row, follow, Lists, plain, values, types, row, valueStep, arrayItems, tupleItems, bracketed, value, typeName, dims, tupleTypes, baseStep, type, default, param, result, header, operations, labelled, argument, left, call, document}
+use Rattle.syntax.specs.Parser.{Reader, expect, begins, rest, Row, follow, Lists, plain, values, types, row, valueStep, arrayItems, tupleItems}
+use Rattle.syntax.specs.Parser.{bracketed, value, typeName, dims, tupleTypes, baseStep, type, default, param, result, header, operations, labelled}
+use Rattle.syntax.specs.Parser.{argument, left, call, document}
 use Rattle.syntax.specs.Parser.Parse.{ok}
 use Rattle.syntax.specs.Parser.Row.{commas, closed, to-the-end}
 use Rattle.syntax.specs.Parser.Follow.{again, done}
 use Rattle.syntax.proofs.Row.{Shrinks, row-is}
-use Rattle.syntax.proofs.Shrinks.{expect-shrinks, value-shrinks, type-shrinks, param-shrinks, result-shrinks, header-shrinks, argument-shrinks, call-shrinks}
+use Rattle.syntax.proofs.Shrinks.{expect-shrinks, value-shrinks, type-shrinks, param-shrinks, result-shrinks, header-shrinks, argument-shrinks}
+use Rattle.syntax.proofs.Shrinks.{call-shrinks}
 
 -- ---- rows
 
-module _ {A L : Type 0} (l : Lists A L) (r : Row) {item : Reader A} (s : Shrinks item) (ts : List Token) {a : A} {us ws : List Token} (e : item ts ≡ ok a us) where
+module _ {A L : Type 0} (l : Lists A L) (r : Row) {item : Reader A} (s : Shrinks item) (ts : List Token) {a : A} {us ws : List Token}
+    (e : item ts ≡ ok a us) where
   row-last : follow r us ≡ done ws → row l r item ts ≡ ok (l .one a) ws
   row-last f = rw (row-is l r item s ts, e, f)
 
@@ -110,7 +115,8 @@ module _ (m : Leaves) (k : Token → Reader Value) (t : Token) (ts : List Token)
   unfolding valueStep
   round-step e = rw (e, and-false (takesNames m), and-false (takesLiterals m))
 
-leaf : (m : Leaves) (b : ℕ) (t : Token) (ts : List Token) {v : Value} → ((k : Token → Reader Value) → valueStep m k (t ∷ ts) ≡ ok v ts) → value m b (t ∷ ts) ≡ ok v ts
+leaf : (m : Leaves) (b : ℕ) (t : Token) (ts : List Token) {v : Value} → ((k : Token → Reader Value) → valueStep m k (t ∷ ts) ≡ ok v ts)
+    → value m b (t ∷ ts) ≡ ok v ts
 unfolding value
 leaf m zero t ts h = h _
 leaf m (suc b) t ts h = h _
@@ -131,10 +137,12 @@ mutual
   value-complete {m} {b} (a-name {t = t} {ts = ts} p q) = leaf m b t ts (λ k. name-step m k t ts p q)
   value-complete {m} {b} (a-literal {t = t} {ts = ts} p q) = leaf m b t ts (λ k. literal-step m k t ts p q)
   value-complete {m} (an-empty-array {b = b} {o = o} {c = c} {ts = ts} p q) = array-complete m b o (c ∷ ts) ts p (rw q)
-  value-complete {m} (an-array {b = b} {o = o} {ts = ts} {us = us} p i) = array-complete m b o ts us p (rw (not-begins rightSquare refl (items-starts i)) (items-complete refl i))
+  value-complete {m} (an-array {b = b} {o = o} {ts = ts} {us = us} p i) =
+      array-complete m b o ts us p (rw (not-begins rightSquare refl (items-starts i)) (items-complete refl i))
   value-complete {m} (a-tuple {b = b} {o = o} {ts = ts} {ws = ws} p h q i) = tuple-complete m b o ts ws p (rw (value-complete h, q, items-complete refl i))
 
-  pub items-complete : {m : Leaves} {close b : ℕ} {ts us : List Token} {vs : Values} → eqb close comma ≡ false → Items m close b ts vs us → row values (commas close) (value m b) ts ≡ ok vs us
+  pub items-complete : {m : Leaves} {close b : ℕ} {ts us : List Token} {vs : Values} → eqb close comma ≡ false → Items m close b ts vs us
+      → row values (commas close) (value m b) ts ≡ ok vs us
   items-complete {m} n (last-item {close = close} {b = b} {c = c} {ts = ts} {us = us} h e) =
       row-last values (commas close) (value-shrinks m b) ts (value-complete h) (follow-close close c us n e)
   items-complete {m} n (next-item {close = close} {b = b} {c = c} {ts = ts} {us = us} h e i) =
@@ -220,7 +228,8 @@ default-starts : {b : ℕ} {ts us : List Token} {d : Option Value} → begins le
 default-starts n no-default = n
 default-starts n (a-default e h) = rw e
 
-pub param-complete : {b : ℕ} {ts us : List Token} {x : Param} → begins leftSquare us ≡ false → begins equal us ≡ false → IsParam b ts x us → param b ts ≡ ok x us
+pub param-complete : {b : ℕ} {ts us : List Token} {x : Param} → begins leftSquare us ≡ false → begins equal us ≡ false → IsParam b ts x us
+    → param b ts ≡ ok x us
 unfolding param expect
 param-complete n k (a-param p q h d) = rw (p, q, type-complete (default-starts n d) h, default-complete k d)
 
@@ -242,7 +251,8 @@ header-complete {b} (a-header p q r s t u v) =
     )
 
 -- a header before other headers or the end
-headers-more : (b : ℕ) (ts us : List Token) (h : Header) (hs : List Header) → header b ts ≡ ok h us → operations b us ≡ ok hs [] → row plain to-the-end (header b) ts ≡ ok (h ∷ hs) []
+headers-more : (b : ℕ) (ts us : List Token) (h : Header) (hs : List Header) → header b ts ≡ ok h us → operations b us ≡ ok hs []
+    → row plain to-the-end (header b) ts ≡ ok (h ∷ hs) []
 unfolding operations follow
 headers-more b ts [] h hs e f = row-last plain to-the-end (header-shrinks b) ts e refl ∙ ap (λ (l : List Header). ok (h ∷ l) []) (cc)
 headers-more b ts (t ∷ us) h hs e f = row-next plain to-the-end (header-shrinks b) ts e refl f
@@ -254,7 +264,8 @@ operations-row (a-header p q r s t u v) = refl
 pub operations-complete : {b : ℕ} {ts : List Token} {hs : List Header} → IsList b ts hs → operations b ts ≡ ok hs []
 unfolding operations
 operations-complete no-header = refl
-operations-complete {b} (a-header-more {ts = ts} {us = us} {h = h} {hs = hs} g l) = operations-row g ∙ headers-more b ts us h hs (header-complete g) (operations-complete l)
+operations-complete {b} (a-header-more {ts = ts} {us = us} {h = h} {hs = hs} g l) =
+    operations-row g ∙ headers-more b ts us h hs (header-complete g) (operations-complete l)
 
 -- ---- documents
 
@@ -269,7 +280,8 @@ unfolding argument
 argument-complete {b} n (a-positional {us = us} {v = v} h) = rw (value-complete h, n) (positional-complete b v us)
 argument-complete {b} n (a-named {n = t} {e = e} {ts = ts} p q h) = rw (leaf both b t (e ∷ ts) (λ k. name-step both k t (e ∷ ts) refl p), q, value-complete h)
 
-one-complete : {ts : List Token} (b : ℕ) (e : Token) (us : List Token) (v : Value) → Starts ts → value names b ts ≡ ok v (e ∷ us) → symOf e ≡ equal → left b ts ≡ ok v us
+one-complete : {ts : List Token} (b : ℕ) (e : Token) (us : List Token) (v : Value) → Starts ts → value names b ts ≡ ok v (e ∷ us) → symOf e ≡ equal
+    → left b ts ≡ ok v us
 unfolding left
 one-complete b e us v (starts h) p q = rw (p, q)
 
@@ -307,7 +319,8 @@ unfolding follow
 follow-off t ts e = rw e
 
 pub body-complete : {b : ℕ} {ts us : List Token} {xs : List Call} → IsBody b ts xs us → row plain (closed rightCurly) (call b) ts ≡ ok xs us
-body-complete {b} (last-call {t = t} {ts = ts} {us = us} h e) = row-last plain (closed rightCurly) (call-shrinks b) ts (call-complete (rw e) h) (follow-off t us e)
+body-complete {b} (last-call {t = t} {ts = ts} {us = us} h e) =
+    row-last plain (closed rightCurly) (call-shrinks b) ts (call-complete (rw e) h) (follow-off t us e)
 body-complete {b} (next-call {ts = ts} h i) =
     let first = body-starts i in
     row-next plain (closed rightCurly) (call-shrinks b) ts (call-complete (not-begins semicolon refl first) h) (follow-on first) (body-complete i)
@@ -319,4 +332,16 @@ name-complete ts n c us k (the-name e) = rw e
 pub document-complete : {b : ℕ} {ts : List Token} {d : Document} → IsDocument b ts d → document b ts ≡ ok d []
 unfolding document expect
 document-complete (a-document v l g n o is a p os q h) =
-    rw (v, l, g, n, o, separated-complete (expect-shrinks aName) name-complete is, a, p, separated-complete (expect-shrinks aName) name-complete os, q, body-complete h)
+    rw (
+      v,
+      l,
+      g,
+      n,
+      o,
+      separated-complete (expect-shrinks aName) name-complete is,
+      a,
+      p,
+      separated-complete (expect-shrinks aName) name-complete os,
+      q,
+      body-complete h,
+    )

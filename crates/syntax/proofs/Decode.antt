@@ -30,7 +30,8 @@ same-token : (t : Token) (k s : ℕ) (b : List ℕ) → k ≡ t .kind → s ≡ 
 same-token t k s b p q r = λ i. record { kind = p i; start = q i; bytes = r i }
 
 module _ (text table : List ℕ) where
-  token-is : (i : ℕ) (t : Token) (l : List ℕ) → drop (i * recordWords) table ≡ t .kind ∷ (t .start ∷ ((t .start + length (t .bytes)) ∷ l)) → t .bytes ≡ take (length (t .bytes)) (drop (t .start) text) → tokenAt text table i ≡ t
+  token-is : (i : ℕ) (t : Token) (l : List ℕ) → drop (i * recordWords) table ≡ t .kind ∷ (t .start ∷ ((t .start + length (t .bytes)) ∷ l))
+      → t .bytes ≡ take (length (t .bytes)) (drop (t .start) text) → tokenAt text table i ≡ t
   unfolding tokenAt
   token-is i t l e p =
       let z : i * recordWords ≡ i * recordWords + 0 = omega arith in
@@ -40,18 +41,22 @@ module _ (text table : List ℕ) where
       let m : endAt table i - startAt table i ≡ length (t .bytes) = omega (arith, s, f) in
       same-token t _ _ _ k s (ap₂ (λ (n : ℕ) (x : List ℕ). take n x) m (ap (λ (n : ℕ). drop n text) s) ∙ sym p)
 
-  from-is : {at : ℕ} (i : ℕ) (ts : List Token) (after : List ℕ) → Placed text at ts → drop (i * recordWords) table ≡ records ts ++ after → tokensFrom text table i (length ts) ≡ ts
+  from-is : {at : ℕ} (i : ℕ) (ts : List Token) (after : List ℕ) → Placed text at ts → drop (i * recordWords) table ≡ records ts ++ after
+      → tokensFrom text table i (length ts) ≡ ts
   unfolding tokensFrom records
   from-is i [] after (none g) e = refl
   from-is i (t ∷ ts) after (next g f p q r w) e =
       ap₂ (λ (x : Token) (xs : List Token). x ∷ xs) (token-is i t (records ts ++ after) e r) (from-is (i + 1) ts after w (next-tail table i _ _ _ _ e))
 
-  within-is : {at : ℕ} (i : ℕ) (ts : List Token) (after : List ℕ) → Placed text at ts → drop (i * recordWords) table ≡ records ts ++ after → (j : ℕ) → i ≤ j → j < i + length ts → (startAt table j < endAt table j) × (endAt table j ≤ length text)
+  within-is : {at : ℕ} (i : ℕ) (ts : List Token) (after : List ℕ) → Placed text at ts → drop (i * recordWords) table ≡ records ts ++ after → (j : ℕ) → i ≤ j
+      → j < i + length ts → (startAt table j < endAt table j) × (endAt table j ≤ length text)
   unfolding records
   within-is i [] after (none g) e j l u = absurd (omega arith)
-  within-is i (t ∷ ts) after (next g f p q r w) e j l u = go (eq-or-lt-of-le l) (λ z. within-is (i + 1) ts after w (next-tail table i _ _ _ _ e) j (omega arith) (omega arith))
+  within-is i (t ∷ ts) after (next g f p q r w) e j l u =
+      go (eq-or-lt-of-le l) (λ z. within-is (i + 1) ts after w (next-tail table i _ _ _ _ e) j (omega arith) (omega arith))
     where
-      go : (i ≡ j) ⊎ (i < j) → (i < j → (startAt table j < endAt table j) × (endAt table j ≤ length text)) → (startAt table j < endAt table j) × (endAt table j ≤ length text)
+      go : (i ≡ j) ⊎ (i < j) → (i < j → (startAt table j < endAt table j) × (endAt table j ≤ length text))
+          → (startAt table j < endAt table j) × (endAt table j ≤ length text)
       go (inl z) f =
           let s = word-of table i 1 _ e in
           let m = word-of table i 2 _ e in
@@ -115,7 +120,8 @@ module _ (text before : List ℕ) (ts : List Token) (placed : Placed text 0 ts) 
   mark-is : (i : ℕ) → i < length ts → getD table (firstMark + i) 0 ≡ symOf (tokenAt text table i)
   mark-is i l =
       let z : 0 + i ≡ i = omega arith in
-      stored-word (symbols ts) (sets before 0 (records ts)) firstMark i (omega (arith, symbols-length ts, length-sets before 0 (records ts))) (omega (arith, symbols-length ts))
+      stored-word (symbols ts) (sets before 0 (records ts)) firstMark i (omega (arith, symbols-length ts, length-sets before 0 (records ts)))
+      (omega (arith, symbols-length ts))
       ∙ (ap (λ (us : List Token). getD (symbols us) i 0) (sym decode)
       ∙ (symbols-from text table 0 (length ts - 0) i (omega arith) ∙ ap (λ (m : ℕ). symOf (tokenAt text table m)) z))
 

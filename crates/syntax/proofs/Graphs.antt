@@ -17,7 +17,8 @@ use Rattle.syntax.specs.Tree.{Value, Call}
 use Rattle.syntax.specs.Tree.Value.{tuple}
 use Rattle.syntax.specs.Tree.Values.{more}
 use Rattle.syntax.specs.Grammar.{names}
-use Rattle.syntax.specs.Parser.{Parse, then, mapped, expect, begins, rest, row, values, plain, commas, closed, follow, onward, valueStep, value, left, call, atEnd, document}
+use Rattle.syntax.specs.Parser.{Parse, then, mapped, expect, begins, rest, row, values, plain, commas, closed, follow, onward, valueStep, value, left}
+use Rattle.syntax.specs.Parser.{call, atEnd, document}
 use Rattle.syntax.specs.Parser.Parse.{ok, bad}
 use Rattle.syntax.specs.Parser.Follow.{again, done}
 use Rattle.syntax.specs.Table.{toks, placeOf, parsed}
@@ -34,13 +35,15 @@ use Rattle.syntax.proofs.Lists.{item-sound, word, listed}
 
 -- ---- left sides: a row of patterns that the equals sign closes
 
-then-alike : {A B C : Type 0} (e n : ℕ) (p : Parse A) (k : A → List Token → Parse B) (l : A → List Token → Parse C) → ((a : A) (us : List Token) → parsed e n (k a us) ≡ parsed e n (l a us)) → parsed e n (then p k) ≡ parsed e n (then p l)
+then-alike : {A B C : Type 0} (e n : ℕ) (p : Parse A) (k : A → List Token → Parse B) (l : A → List Token → Parse C)
+    → ((a : A) (us : List Token) → parsed e n (k a us) ≡ parsed e n (l a us)) → parsed e n (then p k) ≡ parsed e n (then p l)
 then-alike e n (ok a us) k l h = h a us
 then-alike e n (bad c us) k l h = refl
 
 module _ (e n b : ℕ) where
   left-by : (t c : Token) (v : Value) (ws : List Token) (p q : Bool) → eqb (symOf c) equal ≡ p → eqb (symOf c) comma ≡ q
-      → parsed e n (cond p (ok v ws) (then (cond q (ok c ws) (bad 9 (c ∷ ws))) (λ c us. mapped (λ vs. tuple t (more v vs)) (row values (commas equal) (value names b) us))))
+      → parsed e n
+      (cond p (ok v ws) (then (cond q (ok c ws) (bad 9 (c ∷ ws))) (λ c us. mapped (λ vs. tuple t (more v vs)) (row values (commas equal) (value names b) us))))
       ≡ cond q (parsed e n (row values (commas equal) (value names b) ws)) (parsed e n (cond p (ok c ws) (bad 9 (c ∷ ws))))
   left-by t c v ws true true x y = absurd (omega (arith, eqb-true (symOf c) equal x, eqb-true (symOf c) comma y))
   left-by t c v ws true false x y = refl
@@ -48,7 +51,9 @@ module _ (e n b : ℕ) where
   left-by t c v ws false false x y = refl
 
   after-left : (t : Token) (v : Value) (us : List Token)
-      → parsed e n (cond (begins equal us) (ok v (rest us)) (then (expect comma us) (λ c ws. mapped (λ vs. tuple t (more v vs)) (row values (commas equal) (value names b) ws))))
+      → parsed e n
+      (cond (begins equal us) (ok v (rest us))
+      (then (expect comma us) (λ c ws. mapped (λ vs. tuple t (more v vs)) (row values (commas equal) (value names b) ws))))
       ≡ cond (eqb (lookahead us) comma) (parsed e n (row values (commas equal) (value names b) (rest us))) (parsed e n (expect equal us))
   unfolding expect
   after-left t v [] = refl
@@ -72,14 +77,18 @@ module _ (text table : List ℕ) (e n : ℕ) where
   abbrev ended : ℕ → Parsed
   ended j = parsed e n (semicolonOf (toks text table n j))
 
-  pub call-is : (i : ℕ) → parsed e n (call maxBrackets (toks text table n i)) ≡ steps (parsed e n (row values (commas equal) (value names maxBrackets) (toks text table n i))) (word text table e n aName ∷ word text table e n leftRound ∷ listed text table e n Argument ∷ ended ∷ [])
+  pub call-is : (i : ℕ)
+      → parsed e n (call maxBrackets (toks text table n i)) ≡ steps (parsed e n (row values (commas equal) (value names maxBrackets) (toks text table n i)))
+      (word text table e n aName ∷ word text table e n leftRound ∷ listed text table e n Argument ∷ ended ∷ [])
   unfolding call
   call-is i =
-      chain text table e n i _ (word text table e n aName ∷ word text table e n leftRound ∷ listed text table e n Argument ∷ ended ∷ []) (left-tails maxBrackets (toks text table n i)) (λ v i.
+      chain text table e n i _ (word text table e n aName ∷ word text table e n leftRound ∷ listed text table e n Argument ∷ ended ∷ [])
+      (left-tails maxBrackets (toks text table n i)) (λ v i.
       chain text table e n i _ (word text table e n leftRound ∷ listed text table e n Argument ∷ ended ∷ []) (expect-tails aName (toks text table n i)) (λ m i.
       chain text table e n i _ (listed text table e n Argument ∷ ended ∷ []) (expect-tails leftRound (toks text table n i)) (λ o i.
       chain text table e n i _ (ended ∷ []) (row-sound plain rightRound (item-sound Argument) .tails (toks text table n i)) (λ xs i. refl))))
-      ∙ ap (λ (z : Parsed). steps z (word text table e n aName ∷ word text table e n leftRound ∷ listed text table e n Argument ∷ ended ∷ [])) (left-is e n maxBrackets (toks text table n i))
+      ∙ ap (λ (z : Parsed). steps z (word text table e n aName ∷ word text table e n leftRound ∷ listed text table e n Argument ∷ ended ∷ []))
+      (left-is e n maxBrackets (toks text table n i))
 
   module _ (i : ℕ) {s : ℕ} (sees : s ≡ lookahead (toks text table n i)) where
     pub at-semicolon : s ≡ semicolon → Done (i + 1) ≡ parsed e n (semicolonOf (toks text table n i))
@@ -88,7 +97,9 @@ module _ (text table : List ℕ) (e n : ℕ) where
         ∙ sym (simp (begins-look semicolon (toks text table n i) (omega arith), eq-eqb (lookahead (toks text table n i)) semicolon (sym sees ∙ h)))
 
     pub at-none : i ≤ n → (s ≡ semicolon → ⊥) → Done i ≡ parsed e n (semicolonOf (toks text table n i))
-    at-none l h = none-more text table n i l ∙ sym (simp (begins-look semicolon (toks text table n i) (omega arith), ne-eqb (lookahead (toks text table n i)) semicolon (λ z. h (sees ∙ z))))
+    at-none l h =
+        none-more text table n i l
+        ∙ sym (simp (begins-look semicolon (toks text table n i) (omega arith), ne-eqb (lookahead (toks text table n i)) semicolon (λ z. h (sees ∙ z))))
 
 -- ---- bodies
 
@@ -101,13 +112,16 @@ none-body = row-is plain (closed rightCurly) (call maxBrackets) (call-shrinks ma
 
 module _ (e n : ℕ) where
   body-by : (a : Call) (t : Token) (us : List Token) (p : Bool)
-      → parsed e n (onward (cond p (done us) (again (t ∷ us))) (t ∷ us) (λ ws. mapped (λ cs. a ∷ cs) (row plain (closed rightCurly) (call maxBrackets) ws)) (λ ws. ok (a ∷ []) ws))
+      → parsed e n
+      (onward (cond p (done us) (again (t ∷ us))) (t ∷ us) (λ ws. mapped (λ cs. a ∷ cs) (row plain (closed rightCurly) (call maxBrackets) ws))
+      (λ ws. ok (a ∷ []) ws))
       ≡ cond p (Done (n - length us)) (parsed e n (row plain (closed rightCurly) (call maxBrackets) (t ∷ us)))
   body-by a t us true = refl
   body-by a t us false = mapped-same e n (λ cs. a ∷ cs) (row plain (closed rightCurly) (call maxBrackets) (t ∷ us))
 
   after-call : (a : Call) (us : List Token)
-      → parsed e n (onward (follow (closed rightCurly) us) us (λ ws. mapped (λ cs. a ∷ cs) (row plain (closed rightCurly) (call maxBrackets) ws)) (λ ws. ok (a ∷ []) ws))
+      → parsed e n
+      (onward (follow (closed rightCurly) us) us (λ ws. mapped (λ cs. a ∷ cs) (row plain (closed rightCurly) (call maxBrackets) ws)) (λ ws. ok (a ∷ []) ws))
       ≡ cond (eqb (lookahead us) rightCurly) (Done (n - length (rest us))) (parsed e n (row plain (closed rightCurly) (call maxBrackets) us))
   unfolding follow
   after-call a [] = sym (ap (parsed e n) none-body)
@@ -115,9 +129,12 @@ module _ (e n : ℕ) where
 
   module _ (text table : List ℕ) (i : ℕ) where
     abbrev behind : ℕ → Parsed
-    behind j = cond (eqb (lookahead (toks text table n j)) rightCurly) (Done (n - length (rest (toks text table n j)))) (parsed e n (row plain (closed rightCurly) (call maxBrackets) (toks text table n j)))
+    behind j =
+        cond (eqb (lookahead (toks text table n j)) rightCurly) (Done (n - length (rest (toks text table n j))))
+        (parsed e n (row plain (closed rightCurly) (call maxBrackets) (toks text table n j)))
 
-    body-from : parsed e n (row plain (closed rightCurly) (call maxBrackets) (toks text table n i)) ≡ onwards (parsed e n (call maxBrackets (toks text table n i))) behind
+    body-from : parsed e n (row plain (closed rightCurly) (call maxBrackets) (toks text table n i)) ≡ onwards
+        (parsed e n (call maxBrackets (toks text table n i))) behind
     body-from =
         ap (parsed e n) (row-is plain (closed rightCurly) (call maxBrackets) (call-shrinks maxBrackets) (toks text table n i))
         ∙ chain text table e n i _ (behind ∷ []) (call-tails maxBrackets (toks text table n i)) (λ a j. after-call a (toks text table n j))
@@ -128,9 +145,13 @@ module _ (e n : ℕ) where
 
       module _ {j s : ℕ} (reached : x ≡ Done j) (sees : s ≡ lookahead (toks text table n j)) where
         pub body-last : s ≡ rightCurly → Done (j + 1) ≡ parsed e n (row plain (closed rightCurly) (call maxBrackets) (toks text table n i))
-        body-last w = went behind first body-from reached (rw (eq-eqb (lookahead (toks text table n j)) rightCurly (sym sees ∙ w)) (one-more text table n j (stands text table n j sees (omega arith))))
+        body-last w =
+            went behind first body-from reached
+            (rw (eq-eqb (lookahead (toks text table n j)) rightCurly (sym sees ∙ w)) (one-more text table n j (stands text table n j sees (omega arith))))
 
-        pub body-next : (s ≡ rightCurly → ⊥) → parsed e n (row plain (closed rightCurly) (call maxBrackets) (toks text table n i)) ≡ parsed e n (row plain (closed rightCurly) (call maxBrackets) (toks text table n j))
+        pub body-next : (s ≡ rightCurly → ⊥)
+            → parsed e n (row plain (closed rightCurly) (call maxBrackets) (toks text table n i)) ≡ parsed e n
+            (row plain (closed rightCurly) (call maxBrackets) (toks text table n j))
         body-next w = sym (went behind first body-from reached (rw (ne-eqb (lookahead (toks text table n j)) rightCurly (λ z. w (sees ∙ z)))))
 
 -- ---- documents
@@ -224,11 +245,14 @@ module _ (text table : List ℕ) (e n : ℕ) where
       chain text table e n i _ (s3 (finish ∷ [])) (expect-tails leftRound (toks text table n i)) (λ o i.
       chain text table e n i _ (s2 (finish ∷ [])) (names-tail i) (λ os i.
       chain text table e n i _ (s1 (finish ∷ [])) (expect-tails leftCurly (toks text table n i)) (λ q i.
-      chain text table e n i _ (finish ∷ []) (body-tail i) (λ cs i. end-same e n (record { version = l; graph = m; inputs = is; outputs = os; calls = cs }) [] (toks text table n i))))))))))))
+      chain text table e n i _ (finish ∷ []) (body-tail i)
+      (λ cs i. end-same e n (record { version = l; graph = m; inputs = is; outputs = os; calls = cs }) [] (toks text table n i))))))))))))
       ∙ (ap (λ (z : Parsed). steps z (rear (finish ∷ []))) (sym inputs-is) ∙ ap (λ (z : Parsed). onwards z finish) (sym graph-is))
 
   pub at-rest : {r : Parsed} (j : ℕ) → j < n → r ≡ Fault 9 (placeOf e (toks text table n j)) → r ≡ finish j
-  at-rest j h p = p ∙ ap (λ (ts : List Token). Fault 9 (placeOf e ts)) (toks-more text table n j h) ∙ sym (ap (λ (ts : List Token). parsed {A = List Token} e n (atEnd [] ts)) (toks-more text table n j h))
+  at-rest j h p =
+      p ∙ ap (λ (ts : List Token). Fault 9 (placeOf e ts)) (toks-more text table n j h)
+      ∙ sym (ap (λ (ts : List Token). parsed {A = List Token} e n (atEnd [] ts)) (toks-more text table n j h))
 
   pub at-end : (j : ℕ) → n ≤ j → Done n ≡ finish j
   at-end j h =

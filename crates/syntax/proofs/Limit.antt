@@ -8,11 +8,14 @@ use native.Mathlib.Omega.{arith}
 use lib.Dec.{eqb}
 use lib.ListN.{length}
 use Rattle.lexis.specs.Lexer.{Token}
-use Rattle.lexis.specs.Symbol.{symOf, isLiteral, leftRound, rightRound, leftSquare, rightSquare, leftCurly, colon, equal, comma, arrow, aName, aNumber, version, graph, fragment}
+use Rattle.lexis.specs.Symbol.{symOf, isLiteral, leftRound, rightRound, leftSquare, rightSquare, leftCurly, colon, equal, comma, arrow, aName, aNumber}
+use Rattle.lexis.specs.Symbol.{version, graph, fragment}
 use Rattle.syntax.specs.Tree.{Value, Ty}
 use Rattle.syntax.specs.Tree.Value.{name, literal, array, tuple}
 use Rattle.syntax.specs.Grammar.{Leaves, names, literals, both, takesNames, takesLiterals}
-use Rattle.syntax.specs.Parser.{Parse, Reader, Row, Follow, Lists, then, mapped, expect, begins, rest, follow, onward, rowF, row, plain, valueStep, arrayItems, tupleItems, bracketed, value, dims, tupleTypes, baseStep, type, default, param, result, header, operations, labelled, argument, left, call, document}
+use Rattle.syntax.specs.Parser.{Parse, Reader, Row, Follow, Lists, then, mapped, expect, begins, rest, follow, onward, rowF, row, plain, valueStep}
+use Rattle.syntax.specs.Parser.{arrayItems, tupleItems, bracketed, value, dims, tupleTypes, baseStep, type, default, param, result, header, operations}
+use Rattle.syntax.specs.Parser.{labelled, argument, left, call, document}
 use Rattle.syntax.specs.Parser.Parse.{ok, bad}
 use Rattle.syntax.specs.Parser.Row.{commas}
 use Rattle.syntax.specs.Parser.Follow.{again, done, neither}

@@ -19,7 +19,8 @@ use Rattle.syntax.specs.Tree.{Value, Values}
 use Rattle.syntax.specs.Tree.Value.{name, literal, array, tuple}
 use Rattle.syntax.specs.Tree.Arg.{named}
 use Rattle.syntax.specs.Grammar.{literals, both}
-use Rattle.syntax.specs.Parser.{Parse, then, mapped, expect, begins, rest, row, plain, commas, valueStep, bracketed, arrayItems, tupleItems, value, type, default, param, result, labelled, argument}
+use Rattle.syntax.specs.Parser.{Parse, then, mapped, expect, begins, rest, row, plain, commas, valueStep, bracketed, arrayItems, tupleItems, value, type}
+use Rattle.syntax.specs.Parser.{default, param, result, labelled, argument}
 use Rattle.syntax.specs.Parser.Parse.{ok, bad}
 use Rattle.syntax.specs.Table.{toks, parsed}
 use Rattle.syntax.specs.Inner.{lookahead, onwards, isLabel, reader}
@@ -98,7 +99,8 @@ tuple-plain : (t : Token) (p : Parse Values) → Plain (mapped (tuple t) p)
 tuple-plain t (ok vs us) = a-tuple
 tuple-plain t (bad c us) = a-fault
 
-plain-by : (t : Token) (us : List Token) (p q r : Bool) (x : Parse Value) → p ≡ false → Plain x → Plain (cond p (ok (name t) us) (cond q (ok (literal t) us) (cond r x (bad 9 (t ∷ us)))))
+plain-by : (t : Token) (us : List Token) (p q r : Bool) (x : Parse Value) → p ≡ false → Plain x
+    → Plain (cond p (ok (name t) us) (cond q (ok (literal t) us) (cond r x (bad 9 (t ∷ us)))))
 plain-by t us true q r x h y = clash (sym h)
 plain-by t us false true r x h y = a-literal
 plain-by t us false false true x h y = y
@@ -109,7 +111,8 @@ unfolding value valueStep bracketed
 value-plain zero t us h = plain-by t us (eqb (symOf t) aName) (isLiteral (symOf t)) (eqb (symOf t) leftSquare || eqb (symOf t) leftRound) _ h a-fault
 value-plain (suc b) t us h =
     plain-by t us (eqb (symOf t) aName) (isLiteral (symOf t)) (eqb (symOf t) leftSquare || eqb (symOf t) leftRound) _ h
-    (cond-has (λ p. Plain p) (eqb (symOf t) leftSquare) (array-plain t (arrayItems (λ ws. value both b ws) us)) (tuple-plain t (tupleItems (λ ws. value both b ws) us)))
+    (cond-has (λ p. Plain p) (eqb (symOf t) leftSquare) (array-plain t (arrayItems (λ ws. value both b ws) us))
+    (tuple-plain t (tupleItems (λ ws. value both b ws) us)))
 
 value-name : (b : ℕ) (t : Token) (us : List Token) → eqb (symOf t) aName ≡ true → value both b (t ∷ us) ≡ ok (name t) us
 unfolding value valueStep
@@ -123,13 +126,15 @@ plain-same e n b an-array = refl
 plain-same e n b a-tuple = refl
 
 module _ (e n b : ℕ) (t : Token) (us : List Token) where
-  label-by : (p q : Bool) → eqb (symOf t) aName ≡ p → eqb (lookahead us) equal ≡ q → (p && q) ≡ true → parsed e n (argument b (t ∷ us)) ≡ parsed e n (value both b (rest us))
+  label-by : (p q : Bool) → eqb (symOf t) aName ≡ p → eqb (lookahead us) equal ≡ q → (p && q) ≡ true
+      → parsed e n (argument b (t ∷ us)) ≡ parsed e n (value both b (rest us))
   unfolding argument
   label-by true true h k z = simp (value-name b t us h, begins-look equal us (omega arith), k) (mapped-same e n (named t) (value both b (rest us)))
   label-by true false h k z = clash z
   label-by false q h k z = clash z
 
-  other-by : (p q : Bool) → eqb (symOf t) aName ≡ p → eqb (lookahead us) equal ≡ q → (p && q) ≡ false → parsed e n (argument b (t ∷ us)) ≡ parsed e n (value both b (t ∷ us))
+  other-by : (p q : Bool) → eqb (symOf t) aName ≡ p → eqb (lookahead us) equal ≡ q → (p && q) ≡ false
+      → parsed e n (argument b (t ∷ us)) ≡ parsed e n (value both b (t ∷ us))
   unfolding argument
   other-by true true h k z = clash (sym z)
   other-by true false h k z = simp (value-name b t us h, begins-look equal us (omega arith), k)
@@ -153,14 +158,16 @@ module _ (text table : List ℕ) (n i : ℕ) {s : ℕ} (sees : s ≡ lookahead (
   no-label h = simp (ne-eqb (lookahead (toks text table n i)) aName (λ z. h (sees ∙ z)))
 
   pub name-label : {s' : ℕ} → s' ≡ lookahead (toks text table n (i + 1)) → s ≡ aName → eqb s' equal ≡ isLabel (toks text table n i)
-  name-label w h = ap (λ (k : ℕ). eqb k equal) (w ∙ ap lookahead (sym (toks-rest text table n i))) ∙ simp (eq-eqb (lookahead (toks text table n i)) aName (sym sees ∙ h))
+  name-label w h =
+      ap (λ (k : ℕ). eqb k equal) (w ∙ ap lookahead (sym (toks-rest text table n i))) ∙ simp (eq-eqb (lookahead (toks text table n i)) aName (sym sees ∙ h))
 
   module _ (e b : ℕ) where
     pub at-none : i ≤ n → (s ≡ equal → ⊥) → Done i ≡ parsed e n (default b (toks text table n i))
     at-none l h = none-more text table n i l ∙ sym (ap (parsed e n) (default-none b _ (λ z. h (sees ∙ z))))
 
     pub at-default : {r : Parsed} → s ≡ equal → r ≡ parsed e n (value literals b (toks text table n (i + 1))) → r ≡ parsed e n (default b (toks text table n i))
-    at-default h p = p ∙ (ap (λ (ts : List Token). parsed e n (value literals b ts)) (sym (toks-rest text table n i)) ∙ sym (default-some e n b _ (sym sees ∙ h)))
+    at-default h p =
+        p ∙ (ap (λ (ts : List Token). parsed e n (value literals b ts)) (sym (toks-rest text table n i)) ∙ sym (default-some e n b _ (sym sees ∙ h)))
 
 module _ (text table : List ℕ) (n i : ℕ) where
   -- where a label stands there are two tokens
@@ -168,17 +175,21 @@ module _ (text table : List ℕ) (n i : ℕ) where
   label-stands h = go _ _ refl refl h
     where
       go : (p q : Bool) → eqb (lookahead (toks text table n i)) aName ≡ p → eqb (lookahead (rest (toks text table n i))) equal ≡ q → (p && q) ≡ true → i + 1 < n
-      go true true x y z = stands text table n (i + 1) (sym (eqb-true _ _ (sym (ap (λ (ts : List Token). eqb (lookahead ts) equal) (toks-rest text table n i)) ∙ y))) (omega arith)
+      go true true x y z =
+          stands text table n (i + 1) (sym (eqb-true _ _ (sym (ap (λ (ts : List Token). eqb (lookahead ts) equal) (toks-rest text table n i)) ∙ y)))
+          (omega arith)
       go true false x y z = clash z
       go false q x y z = clash z
 
   module _ (e b : ℕ) {r : Parsed} where
-    pub at-label : isLabel (toks text table n i) ≡ true → r ≡ parsed e n (value both b (toks text table n (i + 2))) → r ≡ parsed e n (argument b (toks text table n i))
+    pub at-label : isLabel (toks text table n i) ≡ true → r ≡ parsed e n (value both b (toks text table n (i + 2)))
+        → r ≡ parsed e n (argument b (toks text table n i))
     at-label h p =
         let q : i + 2 ≡ i + 1 + 1 = omega arith in
         p ∙ (ap (λ (k : ℕ). parsed e n (value both b (toks text table n k))) q
         ∙ (ap (λ (ts : List Token). parsed e n (value both b ts)) (sym (toks-rest text table n (i + 1)))
         ∙ (ap (λ (ts : List Token). parsed e n (value both b (rest ts))) (sym (toks-rest text table n i)) ∙ sym (argument-label e n b _ h))))
 
-    pub at-other : isLabel (toks text table n i) ≡ false → r ≡ parsed e n (value both b (toks text table n i)) → r ≡ parsed e n (argument b (toks text table n i))
+    pub at-other : isLabel (toks text table n i) ≡ false → r ≡ parsed e n (value both b (toks text table n i))
+        → r ≡ parsed e n (argument b (toks text table n i))
     at-other h p = p ∙ sym (argument-other e n b _ h)

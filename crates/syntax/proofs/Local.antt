@@ -112,7 +112,8 @@ module _ {A : Type 0} where
   rest-fixed (t ∷ ts) h = record { taken = t ∷ h .taken; split = ap (λ us. t ∷ us) (h .split); holds = h .holds; code = h .code }
 
   -- a choice that does not look at the tokens
-  pub cond-fixed : {f g : Reader A} {ts : List Token} {x y : Parse A} (c : Bool) → Fixed f ts x → Fixed g ts y → Fixed (λ ws. cond c (f ws) (g ws)) ts (cond c x y)
+  pub cond-fixed : {f g : Reader A} {ts : List Token} {x y : Parse A} (c : Bool) → Fixed f ts x → Fixed g ts y
+      → Fixed (λ ws. cond c (f ws) (g ws)) ts (cond c x y)
   cond-fixed true p q = p
   cond-fixed false p q = q
 
@@ -128,7 +129,8 @@ expect-local s (t ∷ ts) = token-fixed (λ us. refl) (cond-fixed (eqb (symOf t)
 -- ---- one after another
 
 module _ {A B : Type 0} {f : Reader A} {k : A → Reader B} where
-  pub then-fixed : {ts : List Token} (x : Parse A) → Fixed f ts x → ((a : A) (us : List Token) → x ≡ ok a us → Fixed (k a) us (k a us)) → Fixed (λ us. then (f us) k) ts (then x k)
+  pub then-fixed : {ts : List Token} (x : Parse A) → Fixed f ts x → ((a : A) (us : List Token) → x ≡ ok a us → Fixed (k a) us (k a us))
+      → Fixed (λ us. then (f us) k) ts (then x k)
   then-fixed (ok a us) h g =
       let n = g a us refl in
       record {
@@ -154,7 +156,8 @@ module _ {A B : Type 0} {g : Reader A} (f : A → B) where
 -- what follows an item is seen by the first token after it
 module _ {A : Type 0} {k j : Reader A} (end : Local j) where
   by-commas : {t : Token} {us : List Token} (c d : Bool) → Fixed k us (k us) →
-      Fixed (λ ws. onward (cond c (again (rest ws)) (cond d (done (rest ws)) neither)) ws k j) (t ∷ us) (onward (cond c (again us) (cond d (done us) neither)) (t ∷ us) k j)
+      Fixed (λ ws. onward (cond c (again (rest ws)) (cond d (done (rest ws)) neither)) ws k j) (t ∷ us)
+      (onward (cond c (again us) (cond d (done us) neither)) (t ∷ us) k j)
   by-commas {t} {us} true d h = rest-fixed (t ∷ us) h
   by-commas {t} {us} false true h = rest-fixed (t ∷ us) (end us)
   by-commas {t} {us} false false h = nine-local (t ∷ us)

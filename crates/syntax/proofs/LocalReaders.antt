@@ -11,17 +11,22 @@ use native.Mathlib.Omega.{arith}
 use lib.Dec.{eqb}
 use lib.ListN.{length}
 use Rattle.lexis.specs.Lexer.{Token}
-use Rattle.lexis.specs.Symbol.{symOf, isLiteral, leftRound, leftSquare, rightSquare, leftCurly, colon, equal, comma, semicolon, arrow, aName, aNumber, version, graph, fragment}
+use Rattle.lexis.specs.Symbol.{symOf, isLiteral, leftRound, leftSquare, rightSquare, leftCurly, colon, equal, comma, semicolon, arrow, aName, aNumber, version}
+use Rattle.lexis.specs.Symbol.{graph, fragment}
 use Rattle.syntax.specs.Tree.{Value, Ty}
 use Rattle.syntax.specs.Tree.Value.{name, literal, array, tuple}
 use Rattle.syntax.specs.Tree.Ty.{arrayOf}
 use Rattle.syntax.specs.Tree.Arg.{positional}
 use Rattle.syntax.specs.Grammar.{Leaves, names, literals, both, takesNames, takesLiterals}
-use Rattle.syntax.specs.Parser.{Parse, Reader, then, expect, begins, rest, valueStep, arrayItems, tupleItems, bracketed, value, typeName, dims, tupleTypes, named-type, baseStep, type, default, param, result, header, operations, labelled, argument, left, call, atEnd, document}
+use Rattle.syntax.specs.Parser.{Parse, Reader, then, expect, begins, rest, valueStep, arrayItems, tupleItems, bracketed, value, typeName, dims}
+use Rattle.syntax.specs.Parser.{tupleTypes, named-type, baseStep, type, default, param, result, header, operations, labelled, argument, left, call}
+use Rattle.syntax.specs.Parser.{atEnd, document}
 use Rattle.syntax.specs.Parser.Parse.{ok, bad}
 use Rattle.syntax.proofs.Row.{Shrinks, left-ok}
-use Rattle.syntax.proofs.Shrinks.{expect-shrinks, value-shrinks, type-shrinks, param-shrinks, result-shrinks, header-shrinks, argument-shrinks, call-shrinks}
-use Rattle.syntax.proofs.Local.{Fixed, Local, look-fixed, end-fixed, token-fixed, ok-local, nine-local, ten-local, rest-fixed, cond-fixed, begins-alike, begins-local, expect-local, then-fixed, then-local, mapped-local, row-local}
+use Rattle.syntax.proofs.Shrinks.{expect-shrinks, value-shrinks, type-shrinks, param-shrinks, result-shrinks, header-shrinks, argument-shrinks}
+use Rattle.syntax.proofs.Shrinks.{call-shrinks}
+use Rattle.syntax.proofs.Local.{Fixed, Local, look-fixed, end-fixed, token-fixed, ok-local, nine-local, ten-local, rest-fixed, cond-fixed, begins-alike}
+use Rattle.syntax.proofs.Local.{begins-local, expect-local, then-fixed, then-local, mapped-local, row-local}
 
 -- a reader of the tokens after the first one, t, is local as a reader of them all; it may leave t too
 abbrev LocalAfter : {A : Type 0} → (Token → Reader A) → Type 0
@@ -52,7 +57,8 @@ module _ (val : Reader Value) (small : Shrinks val) (h : Local val) where
 
   bracketed-local : LocalAfter (bracketed val)
   unfolding bracketed
-  bracketed-local t ts = rest-fixed (t ∷ ts) (cond-fixed (eqb (symOf t) leftSquare) (mapped-local (array t) array-local ts) (mapped-local (tuple t) tuple-local ts))
+  bracketed-local t ts =
+      rest-fixed (t ∷ ts) (cond-fixed (eqb (symOf t) leftSquare) (mapped-local (array t) array-local ts) (mapped-local (tuple t) tuple-local ts))
 
 pub value-local : (m : Leaves) (b : ℕ) → Local (value m b)
 unfolding value
@@ -68,7 +74,8 @@ then-cond x y k false = refl
 
 -- one pair of square brackets, and the others
 pub dims-is : (may : Bool) (u : Ty) (o : Token) (ts : List Token) →
-    dims may u (o ∷ ts) ≡ cond (eqb (symOf o) leftSquare) (cond may (then (expect rightSquare ts) (λ c us. dims may (arrayOf u) us)) (bad 10 (o ∷ ts))) (ok u (o ∷ ts))
+    dims may u (o ∷ ts) ≡ cond (eqb (symOf o) leftSquare) (cond may (then (expect rightSquare ts) (λ c us. dims may (arrayOf u) us)) (bad 10 (o ∷ ts)))
+    (ok u (o ∷ ts))
 unfolding dims expect
 dims-is may u o [] = refl
 dims-is may u o (c ∷ ts) = rw then-cond
@@ -104,7 +111,8 @@ base-step-local opened h (t ∷ ts) = token-fixed (λ us. refl) (cond-fixed (eqb
 pub type-local : (b : ℕ) → Local (type b)
 unfolding type
 type-local zero = then-local (base-step-local _ too-deep) (dims-local false)
-type-local (suc b) = then-local (base-step-local _ (λ t ts. rest-fixed (t ∷ ts) (tuple-types-local (type b) (type-shrinks b) (type-local b) ts))) (dims-local true)
+type-local (suc b) =
+    then-local (base-step-local _ (λ t ts. rest-fixed (t ∷ ts) (tuple-types-local (type b) (type-shrinks b) (type-local b) ts))) (dims-local true)
 
 -- ---- operation lists
 

@@ -42,7 +42,8 @@ pub room-of : (m : ℕ) {x : Counted} {n : ℕ} → Room x m → x ≡ C.Tokens 
 room-of m room e = subst (λ (y : Counted). Room y m) e room
 
 module _ (text before after : List ℕ) where
-  got-by : (l : Lexed) (n : ℕ) → lex text ≡ l → C.Tokens n ≡ counted l → Recorded true l before after → n ≤ maxTokens → workWords ≤ length before → Got text after n
+  got-by : (l : Lexed) (n : ℕ) → lex text ≡ l → C.Tokens n ≡ counted l → Recorded true l before after → n ≤ maxTokens → workWords ≤ length before
+      → Got text after n
   got-by (accepted ts) n e h w few room =
       let m : n ≡ length ts = let z : n ≡ 0 + length ts = cc in omega arith in
       let p = placed text ts e in
@@ -56,7 +57,8 @@ module _ (text before after : List ℕ) where
       }
   got-by (refused c p) n e h w few room = let z : _≡_ {A = ℕ} 0 1 = cc in absurd (omega arith)
 
-  pub got : (x : Counted) (n : ℕ) → x ≡ counted (lex text) → Recorded true (lex text) before after → Room x (length before) → workWords ≤ length before → x ≡ C.Tokens n → Got text after n
+  pub got : (x : Counted) (n : ℕ) → x ≡ counted (lex text) → Recorded true (lex text) before after → Room x (length before) → workWords ≤ length before
+      → x ≡ C.Tokens n → Got text after n
   got x n h w few room e = got-by (lex text) n refl (sym e ∙ h) w (room-of (length before) few e .0) room
 
 -- ---- answers
@@ -94,7 +96,8 @@ module _ (text table : List ℕ) (n : ℕ) (h : Holds text table n) where
   fault-by (ok a us) t e = let z : _≡_ {A = ℕ} 0 1 = cc in absurd (omega arith)
   fault-by (bad k us) (fault s) {q = q} e =
       let z : placeOf (length text) us ≡ q = cc in
-      let y : placeOf (length text) us ≡ placeOf (length text) (toks text table n (n - length us)) = ap (placeOf (length text)) (toks-suffix text table n 0 s) in
+      let y : placeOf (length text) us ≡ placeOf (length text) (toks text table n (n - length us)) = ap (placeOf (length text)) (toks-suffix text table n 0 s)
+      in
       omega (arith, place-within (n - length us))
 
   pub fault-within : (w : Syntax) {x : Parsed} {c q : ℕ} → x ≡ syntaxOf w (length text) n (toks text table n 0) → x ≡ Fault c q → q ≤ length text

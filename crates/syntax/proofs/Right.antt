@@ -39,7 +39,8 @@ pub record Completes {A : Type 0} (R : Phrase A) (b : ℕ) (p : List Token) : Ty
 pub data Right {A : Type 0} (R : Phrase A) (b : ℕ) (ts : List Token) : Parse A → Type 0 where
   good : {a : A} {us : List Token} (p : List Token) → ts ≡ p ++ us → Reaches R b p a → Right R b ts (ok a us)
   nine : {us : List Token} (p : List Token) → ts ≡ p ++ us → Completes R b p → Right R b ts (bad 9 us)
-  ten : {t : Token} {us : List Token} (p : List Token) → ts ≡ p ++ (t ∷ us) → Completes R b p → Completes R (suc b) (p ++ (t ∷ [])) → Right R b ts (bad 10 (t ∷ us))
+  ten : {t : Token} {us : List Token} (p : List Token) → ts ≡ p ++ (t ∷ us) → Completes R b p → Completes R (suc b) (p ++ (t ∷ []))
+      → Right R b ts (bad 10 (t ∷ us))
 
 -- a reader is right everywhere, and there is such a phrase
 pub record Reads {A : Type 0} (R : Phrase A) (b : ℕ) (f : Reader A) : Type 0 where
@@ -64,22 +65,26 @@ Makes {A} U T q g b = (c : ℕ) (us : List Token) (a : A) (ws : List Token) → 
 
 module _ {A B : Type 0} (U : Phrase A) (T : Phrase B) (q : List Token) (g : A → B) where
   ahead : {b : ℕ} (p : List Token) → Makes U T q g b → Completes U b p → Completes T b (q ++ p)
-  ahead p f h = record { tokens = h .tokens; tree = g (h .tree); reaches = λ c ws k. rw (append-assoc q p (h .tokens ++ ws)) (f c _ _ ws k (h .reaches c ws k)) }
+  ahead p f h =
+      record { tokens = h .tokens; tree = g (h .tree); reaches = λ c ws k. rw (append-assoc q p (h .tokens ++ ws)) (f c _ _ ws k (h .reaches c ws k)) }
 
   pub made : {b : ℕ} {ts us : List Token} {x : Parse A} → ts ≡ q ++ us → Makes U T q g b → Right U b us x → Right T b ts (mapped g x)
   made e f (good {a = a} p d h) = good {a = g a} (q ++ p) (split q p _ e d) (λ c ws k. rw (append-assoc q p ws) (f c _ _ ws k (h c ws k)))
   made e f (nine p d h) = nine (q ++ p) (split q p _ e d) (ahead p f h)
-  made e f (ten {t = t} p d h h') = ten (q ++ p) (split q p _ e d) (ahead p f h) (rw (append-assoc q p (t ∷ [])) (ahead (p ++ (t ∷ [])) (λ c us a ws k. f c us a ws (omega arith)) h'))
+  made e f (ten {t = t} p d h h') =
+      ten (q ++ p) (split q p _ e d) (ahead p f h) (rw (append-assoc q p (t ∷ [])) (ahead (p ++ (t ∷ [])) (λ c us a ws k. f c us a ws (omega arith)) h'))
 
 mapped-same : {A : Type 0} (x : Parse A) → mapped (λ a. a) x ≡ x
 mapped-same (ok a us) = refl
 mapped-same (bad c us) = refl
 
-pub glue : {A : Type 0} (U T : Phrase A) {b : ℕ} {ts us : List Token} {x : Parse A} (q : List Token) → ts ≡ q ++ us → Makes U T q (λ a. a) b → Right U b us x → Right T b ts x
+pub glue : {A : Type 0} (U T : Phrase A) {b : ℕ} {ts us : List Token} {x : Parse A} (q : List Token) → ts ≡ q ++ us → Makes U T q (λ a. a) b
+    → Right U b us x → Right T b ts x
 glue U T {x = x} q e f h = rw (mapped-same x) at (made U T q (λ a. a) e f h)
 
 -- every U is a T
-pub also : {A : Type 0} (U T : Phrase A) {b : ℕ} {f : Reader A} → Reads U b f → ((c : ℕ) (ts : List Token) (a : A) (us : List Token) → U c ts a us → T c ts a us) → Reads T b f
+pub also : {A : Type 0} (U T : Phrase A) {b : ℕ} {f : Reader A} → Reads U b f
+    → ((c : ℕ) (ts : List Token) (a : A) (us : List Token) → U c ts a us → T c ts a us) → Reads T b f
 also U T h k =
     let q = h .some in
     record {
@@ -104,7 +109,9 @@ module _ {A B : Type 0} (R : Phrase A) (T : Phrase B) where
       record {
         tokens = q .tokens ++ r .tokens;
         tree = r .tree;
-        reaches = λ c ws k. rw (append-assoc (q .tokens) (r .tokens) ws) (r .reaches c ws k (p ++ (q .tokens ++ (r .tokens ++ ws))) (q .reaches c (r .tokens ++ ws) k));
+        reaches =
+            λ c ws k. rw (append-assoc (q .tokens) (r .tokens) ws)
+            (r .reaches c ws k (p ++ (q .tokens ++ (r .tokens ++ ws))) (q .reaches c (r .tokens ++ ws) k));
       }
 
   -- a T, where it is known how to go on after the tokens q of an R
@@ -147,7 +154,8 @@ module _ {B : Type 0} (T : Phrase B) where
   expected s {b} {k} q f (t ∷ us) =
       choice (λ x. Right T b (t ∷ us) (then x k)) (eqb (symOf t) s) (λ e. shift t (f t (eqb-true (symOf t) s e) us)) (λ e. nine [] refl q)
 
-  pub expects : {s : ℕ} (x : Sample s) {b : ℕ} {k : Token → Reader B} → ((t : Token) → symOf t ≡ s → Reads (Past T t) b (k t)) → Reads T b (λ ts. then (expect s ts) k)
+  pub expects : {s : ℕ} (x : Sample s) {b : ℕ} {k : Token → Reader B} → ((t : Token) → symOf t ≡ s → Reads (Past T t) b (k t))
+      → Reads T b (λ ts. then (expect s ts) k)
   expects {s} x {b} {k} f = record { each = expected s q (λ t e. f t e .each); some = q }
     where
       g : Completes (Past T (x .token)) b []
@@ -157,7 +165,8 @@ module _ {B : Type 0} (T : Phrase B) where
       q = record { tokens = x .token ∷ g .tokens; tree = g .tree; reaches = g .reaches }
 
   -- a choice by the next token
-  pub if-begins : (s : ℕ) {b : ℕ} {f g : Reader B} → ((t : Token) → symOf t ≡ s → Reads (Past T t) b f) → Reads T b g → Reads T b (λ us. cond (begins s us) (f (rest us)) (g us))
+  pub if-begins : (s : ℕ) {b : ℕ} {f g : Reader B} → ((t : Token) → symOf t ≡ s → Reads (Past T t) b f) → Reads T b g
+      → Reads T b (λ us. cond (begins s us) (f (rest us)) (g us))
   if-begins s {b} {f} {g} h k = record { each = go; some = k .some }
     where
       go : (us : List Token) → Right T b us (cond (begins s us) (f (rest us)) (g us))
@@ -171,7 +180,8 @@ abbrev pub Inside : {B : Type 0} → Phrase B → Phrase B
 Inside T b us c ws = T (suc b) us c ws
 
 module _ {B : Type 0} (T : Phrase B) where
-  deep : {b : ℕ} (f : List Token → List Token) (a : B) → ((c : ℕ) (ws : List Token) → b ≤ c → T (suc c) (f ws) a ws) → (c : ℕ) (ws : List Token) → suc b ≤ c → T c (f ws) a ws
+  deep : {b : ℕ} (f : List Token → List Token) (a : B) → ((c : ℕ) (ws : List Token) → b ≤ c → T (suc c) (f ws) a ws) → (c : ℕ) (ws : List Token) → suc b ≤ c
+      → T c (f ws) a ws
   deep f a g zero ws k = absurd (omega arith)
   deep f a g (suc c) ws k = g c ws (omega arith)
 
@@ -224,7 +234,8 @@ abbrev pub Next : {A L : Type 0} → Lists A L → Row → Phrase A → Phrase L
 Next {A} {L} l r R S =
     (b : ℕ) (ts : List Token) (a : A) (m us : List Token) (x : L) (ws : List Token) → R b ts a (m ++ us) → Between r m → S b us x ws → S b ts (l .cons a x) ws
 
-module _ {A L : Type 0} (l : Lists A L) (r : Row) (R : Phrase A) (S : Phrase L) (last : Last l r R S) (next : Next l r R S) (m₀ : List Token) (end : Ending r m₀) where
+module _ {A L : Type 0} (l : Lists A L) (r : Row) (R : Phrase A) (S : Phrase L) (last : Last l r R S) (next : Next l r R S) (m₀ : List Token)
+    (end : Ending r m₀) where
   ended : {b : ℕ} (a : A) → Completes (After R S a) b []
   ended a = record { tokens = m₀; tree = l .one a; reaches = λ c ws k ts h. last c ts a m₀ ws h end }
 

@@ -34,7 +34,8 @@ Shrinks item = (ts : List Token) → Left (length ts) (item ts)
 pub left-ok : {A : Type 0} {n : ℕ} {a : A} {us : List Token} → Left n (ok a us) → length us < n
 left-ok (fewer h) = h
 
-pub then-left : {A B : Type 0} {m n : ℕ} {x : Parse A} {k : A → Reader B} → Left m x → ((a : A) (us : List Token) → length us < m → Left n (k a us)) → Left n (then x k)
+pub then-left : {A B : Type 0} {m n : ℕ} {x : Parse A} {k : A → Reader B} → Left m x → ((a : A) (us : List Token) → length us < m → Left n (k a us))
+    → Left n (then x k)
 then-left (fewer h) f = f _ _ h
 then-left fault f = fault
 
@@ -48,7 +49,8 @@ left-le l (fewer h) = fewer (le-trans h l)
 left-le l fault = fault
 
 -- two ways to go on that agree on fewer than n tokens
-pub then-same : {A B : Type 0} {n : ℕ} {x : Parse A} {k k' : A → Reader B} → Left n x → ((a : A) (us : List Token) → length us < n → k a us ≡ k' a us) → then x k ≡ then x k'
+pub then-same : {A B : Type 0} {n : ℕ} {x : Parse A} {k k' : A → Reader B} → Left n x → ((a : A) (us : List Token) → length us < n → k a us ≡ k' a us)
+    → then x k ≡ then x k'
 then-same (fewer h) f = f _ _ h
 then-same fault f = refl
 
@@ -64,7 +66,8 @@ follow-behind : (r : Row) (us : List Token) → Behind (length us) (follow r us)
 unfolding follow
 follow-behind (commas close) [] = stop
 follow-behind (commas close) (t ∷ us) =
-    cond-has (λ f. Behind (suc (length us)) f) (eqb (symOf t) comma) (next (omega arith)) (cond-has (λ f. Behind (suc (length us)) f) (eqb (symOf t) close) (last (omega arith)) stop)
+    cond-has (λ f. Behind (suc (length us)) f) (eqb (symOf t) comma) (next (omega arith))
+    (cond-has (λ f. Behind (suc (length us)) f) (eqb (symOf t) close) (last (omega arith)) stop)
 follow-behind (closed close) [] = stop
 follow-behind (closed close) (t ∷ us) = cond-has (λ f. Behind (suc (length us)) f) (eqb (symOf t) close) (last (omega arith)) (next (omega arith))
 follow-behind to-the-end [] = last zero-le
@@ -94,7 +97,8 @@ module _ {A L : Type 0} (l : Lists A L) (r : Row) (item : Reader A) (small : Shr
       onward-same us _ _ _ (follow-behind r us) (λ ws h'. ap (mapped (l .cons a)) (any-fuel f g ws (omega arith) (omega arith))))
 
   -- one item, what follows it, and the row again
-  pub row-is : (ts : List Token) → row l r item ts ≡ then (item ts) (λ a us. onward (follow r us) us (λ ws. mapped (l .cons a) (row l r item ws)) (λ ws. ok (l .one a) ws))
+  pub row-is : (ts : List Token)
+      → row l r item ts ≡ then (item ts) (λ a us. onward (follow r us) us (λ ws. mapped (l .cons a) (row l r item ws)) (λ ws. ok (l .one a) ws))
   unfolding row rowF
   row-is ts =
       then-same (small ts) (λ a us h.

@@ -7,7 +7,8 @@ use Prim.Native.String.{String}
 use Rattle.lexis.specs.Ascii.{ascii}
 use Rattle.lexis.specs.Words.{sameBytes}
 use Rattle.lexis.specs.Lexer.{Token}
-use Rattle.lexis.specs.Symbol.{symOf, symbolOf, terminals, symbolIn, keywordSymbol, arrow, aName, aNumber, aLiteral, version, graph, fragment, tensorWord, extentWord, scalarWord, logicalWord, stringWord}
+use Rattle.lexis.specs.Symbol.{symOf, symbolOf, terminals, symbolIn, keywordSymbol, arrow, aName, aNumber, aLiteral, version, graph, fragment, tensorWord}
+use Rattle.lexis.specs.Symbol.{extentWord, scalarWord, logicalWord, stringWord}
 
 -- a token that is the terminal s
 pub record Sample (s : ℕ) : Type 0 where

@@ -15,7 +15,8 @@ use Rattle.syntax.specs.Tree.{Value, Ty}
 use Rattle.syntax.specs.Tree.Value.{name, literal, array, tuple}
 use Rattle.syntax.specs.Tree.Ty.{arrayOf}
 use Rattle.syntax.specs.Grammar.{Leaves, names, literals, both, takesNames, takesLiterals}
-use Rattle.syntax.specs.Parser.{Parse, Reader, expect, begins, rest, valueStep, arrayItems, tupleItems, bracketed, value, typeName, dims, tupleTypes, named-type, baseStep, type, default, param, result, header, labelled, argument, left, call}
+use Rattle.syntax.specs.Parser.{Parse, Reader, expect, begins, rest, valueStep, arrayItems, tupleItems, bracketed, value, typeName, dims, tupleTypes}
+use Rattle.syntax.specs.Parser.{named-type, baseStep, type, default, param, result, header, labelled, argument, left, call}
 use Rattle.syntax.specs.Parser.Parse.{ok}
 use Rattle.syntax.proofs.Row.{cond-has, Left, Shrinks, then-left, mapped-left, left-le, row-shrinks}
 use Rattle.syntax.proofs.Row.Left.{fewer, fault}

@@ -10,14 +10,16 @@ use native.Mathlib.Omega.{arith}
 use lib.Dec.{eqb}
 use borrow.Author.Tests.{eqb-true}
 use Rattle.lexis.specs.Lexer.{Token}
-use Rattle.lexis.specs.Symbol.{symOf, isLiteral, leftRound, rightRound, leftSquare, rightSquare, leftCurly, rightCurly, colon, equal, comma, semicolon, aName, tensorWord, extentWord, scalarWord, logicalWord, stringWord}
+use Rattle.lexis.specs.Symbol.{symOf, isLiteral, leftRound, rightRound, leftSquare, rightSquare, leftCurly, rightCurly, colon, equal, comma, semicolon, aName}
+use Rattle.lexis.specs.Symbol.{tensorWord, extentWord, scalarWord, logicalWord, stringWord}
 use Rattle.syntax.specs.Tree.{Value, Values, Ty, Header, Call, Document}
 use Rattle.syntax.specs.Tree.Value.{name, literal, array, tuple}
 use Rattle.syntax.specs.Tree.Values.{none, more}
 use Rattle.syntax.specs.Tree.Ty.{scalar, arrayOf, tupleOf}
 use Rattle.syntax.specs.Tree.Tys.{a-type}
 use Rattle.syntax.specs.Tree.Arg.{positional, named}
-use Rattle.syntax.specs.Grammar.{Separated, Leaves, takesNames, takesLiterals, Spells, Items, IsTypeName, Dims, IsType, IsTypes, IsDefault, IsParam, IsResult, IsHeader, IsList, IsName, IsArg, IsLeft, IsEnd, IsCall, IsBody, IsDocument}
+use Rattle.syntax.specs.Grammar.{Separated, Leaves, takesNames, takesLiterals, Spells, Items, IsTypeName, Dims, IsType, IsTypes, IsDefault, IsParam}
+use Rattle.syntax.specs.Grammar.{IsResult, IsHeader, IsList, IsName, IsArg, IsLeft, IsEnd, IsCall, IsBody, IsDocument}
 use Rattle.syntax.specs.Grammar.Separated.{last, next}
 use Rattle.syntax.specs.Grammar.Leaves.{names, literals, both}
 use Rattle.syntax.specs.Grammar.Spells.{a-name, a-literal, an-empty-array, an-array, a-tuple}
@@ -38,14 +40,18 @@ use Rattle.syntax.specs.Grammar.IsEnd.{no-semicolon, a-semicolon}
 use Rattle.syntax.specs.Grammar.IsCall.{a-call}
 use Rattle.syntax.specs.Grammar.IsBody.{last-call, next-call}
 use Rattle.syntax.specs.Grammar.IsDocument.{a-document}
-use Rattle.syntax.specs.Parser.{Parse, then, mapped, Reader, expect, begins, rest, plain, values, types, row, valueStep, arrayItems, tupleItems, bracketed, value, typeName, dims, tupleTypes, named-type, baseStep, type, default, param, result, header, operations, labelled, argument, left, call, atEnd, document}
+use Rattle.syntax.specs.Parser.{Parse, then, mapped, Reader, expect, begins, rest, plain, values, types, row, valueStep, arrayItems, tupleItems}
+use Rattle.syntax.specs.Parser.{bracketed, value, typeName, dims, tupleTypes, named-type, baseStep, type, default, param, result, header, operations}
+use Rattle.syntax.specs.Parser.{labelled, argument, left, call, atEnd, document}
 use Rattle.syntax.specs.Parser.Parse.{ok, bad}
 use Rattle.syntax.specs.Parser.Row.{commas, closed, to-the-end}
 use Rattle.syntax.proofs.Row.{Shrinks}
 use Rattle.syntax.proofs.Row.Left.{fault}
-use Rattle.syntax.proofs.Shrinks.{expect-shrinks, value-shrinks, type-shrinks, param-shrinks, result-shrinks, header-shrinks, argument-shrinks, call-shrinks}
+use Rattle.syntax.proofs.Shrinks.{expect-shrinks, value-shrinks, type-shrinks, param-shrinks, result-shrinks, header-shrinks, argument-shrinks}
+use Rattle.syntax.proofs.Shrinks.{call-shrinks}
 use Rattle.syntax.proofs.Samples.{mark, arrow-token, name-token, number-token, version-token, graph-token, fragment-token, scalar-token}
-use Rattle.syntax.proofs.Right.{Phrase, Completes, Right, Reads, choice, made, glue, also, Reaches, After, begun, from-right, after, finish, into, Past, shift, expects, if-begins, Inside, opened, deeper, Last, Next, rows}
+use Rattle.syntax.proofs.Right.{Phrase, Completes, Right, Reads, choice, made, glue, also, Reaches, After, begun, from-right, after, finish, into, Past}
+use Rattle.syntax.proofs.Right.{shift, expects, if-begins, Inside, opened, deeper, Last, Next, rows}
 use Rattle.syntax.proofs.Right.Right.{good, nine, ten}
 use Rattle.syntax.proofs.Right.Between.{a-comma, closed-on, on-to-the-end}
 use Rattle.syntax.proofs.Right.Ending.{a-closer, a-last, the-end}
@@ -95,7 +101,13 @@ module _ (m : Leaves) (close : ℕ) where
 
 a-leaf : (m : Leaves) {b : ℕ} → Completes (Spells m) b []
 a-leaf names = record { tokens = name-token .token ∷ []; tree = name (name-token .token); reaches = λ c ws k. a-name refl (name-token .is) }
-a-leaf literals = record { tokens = number-token .token ∷ []; tree = literal (number-token .token); reaches = λ c ws k. a-literal {t = number-token .token} refl (rw (number-token .is)) }
+a-leaf literals =
+    record {
+      tokens = number-token .token
+          ∷ [];
+      tree = literal (number-token .token);
+      reaches = λ c ws k. a-literal {t = number-token .token} refl (rw (number-token .is));
+    }
 a-leaf both = record { tokens = name-token .token ∷ []; tree = name (name-token .token); reaches = λ c ws k. a-name refl (name-token .is) }
 
 data Opens (t : Token) : Type 0 where
@@ -161,7 +173,9 @@ value-reads m zero =
     }
 value-reads m (suc b) =
     record {
-      each = value-step-right m _ (λ t us o. shift (Spells m) t (deeper (Past (Spells m) t) (bracketed-reads m (value-shrinks m b) (value-reads m b) t o .each us)));
+      each =
+          value-step-right m _
+          (λ t us o. shift (Spells m) t (deeper (Past (Spells m) t) (bracketed-reads m (value-shrinks m b) (value-reads m b) t o .each us)));
       some = a-leaf m;
     }
 
@@ -187,7 +201,8 @@ name-or {s} {u} k h n = choice (Named s) (eqb s k) (λ e. is-named (rw (eqb-true
 type-named : (s : ℕ) → Named s (typeName s)
 unfolding typeName
 type-named s =
-    name-or tensorWord is-tensor (name-or extentWord is-extent (name-or scalarWord is-scalar (name-or logicalWord is-logical (name-or stringWord is-string no-name))))
+    name-or tensorWord is-tensor
+    (name-or extentWord is-extent (name-or scalarWord is-scalar (name-or logicalWord is-logical (name-or stringWord is-string no-name))))
 
 -- pairs of square brackets after the type w
 abbrev Pairs : Ty → Phrase Ty
@@ -196,7 +211,8 @@ Pairs w b us u ws = Dims b us w u ws
 no-pairs : {w : Ty} {b : ℕ} → Completes (Pairs w) b []
 no-pairs {w} = record { tokens = []; tree = w; reaches = λ c ws k. no-pair }
 
-pair : {b : ℕ} {o c : Token} {ts us : List Token} {w u : Ty} (b' : ℕ) → suc b ≤ b' → symOf o ≡ leftSquare → symOf c ≡ rightSquare → Dims b' ts (arrayOf w) u us → Dims b' (o ∷ c ∷ ts) w u us
+pair : {b : ℕ} {o c : Token} {ts us : List Token} {w u : Ty} (b' : ℕ) → suc b ≤ b' → symOf o ≡ leftSquare → symOf c ≡ rightSquare
+    → Dims b' ts (arrayOf w) u us → Dims b' (o ∷ c ∷ ts) w u us
 pair zero k e f h = absurd (omega arith)
 pair (suc b') k e f h = a-pair e f h
 
@@ -204,7 +220,9 @@ half-pair : {w : Ty} {b : ℕ} {o : Token} → symOf o ≡ leftSquare → Comple
 half-pair {w} {b} e = record { tokens = mark rightSquare .token ∷ []; tree = arrayOf w; reaches = λ c ws k. pair c k e (mark rightSquare .is) no-pair }
 
 too-many : (w : Ty) (o : Token) (ts : List Token) → Right (Pairs w) zero (o ∷ ts) (cond (eqb (symOf o) leftSquare) (bad 10 (o ∷ ts)) (ok w (o ∷ ts)))
-too-many w o ts = choice (Right (Pairs w) zero (o ∷ ts)) (eqb (symOf o) leftSquare) (λ e. ten [] refl no-pairs (half-pair (eqb-true _ _ e))) (λ _. good [] refl (λ c ws k. no-pair))
+too-many w o ts =
+    choice (Right (Pairs w) zero (o ∷ ts)) (eqb (symOf o) leftSquare) (λ e. ten [] refl no-pairs (half-pair (eqb-true _ _ e)))
+    (λ _. good [] refl (λ c ws k. no-pair))
 
 no-dims-right : (w : Ty) (ts : List Token) → Right (Pairs w) zero ts (dims false w ts)
 unfolding dims
@@ -216,7 +234,8 @@ dims-right : {b : ℕ} (w : Ty) (ts : List Token) → Right (Pairs w) (suc b) ts
 unfolding dims
 dims-right w [] = good [] refl (λ c ws k. no-pair)
 dims-right {b} w (o ∷ []) =
-    choice (Right (Pairs w) (suc b) (o ∷ [])) (eqb (symOf o) leftSquare) (λ e. nine (o ∷ []) refl (half-pair (eqb-true _ _ e))) (λ _. good [] refl (λ c ws k. no-pair))
+    choice (Right (Pairs w) (suc b) (o ∷ [])) (eqb (symOf o) leftSquare) (λ e. nine (o ∷ []) refl (half-pair (eqb-true _ _ e)))
+    (λ _. good [] refl (λ c ws k. no-pair))
 dims-right {b} w (o ∷ c ∷ ts) =
     let again = dims-right (arrayOf w) ts in
     choice (Right (Pairs w) (suc b) (o ∷ c ∷ ts)) (eqb (symOf o) leftSquare) (λ e.
@@ -249,10 +268,12 @@ base-named : {b : ℕ} (t : Token) (ts : List Token) {o : Option Ty} → Named (
 base-named t ts (is-named h) = good (t ∷ []) refl (λ c ws k u xs d. a-plain h d)
 base-named t ts no-name = nine [] refl a-base
 
-base-right : {b : ℕ} (k : Token → Reader Ty) → ((t : Token) (us : List Token) → symOf t ≡ leftRound → Right Base b (t ∷ us) (k t us)) → (ts : List Token) → Right Base b ts (baseStep k ts)
+base-right : {b : ℕ} (k : Token → Reader Ty) → ((t : Token) (us : List Token) → symOf t ≡ leftRound → Right Base b (t ∷ us) (k t us)) → (ts : List Token)
+    → Right Base b ts (baseStep k ts)
 unfolding baseStep
 base-right k f [] = nine [] refl a-base
-base-right {b} k f (t ∷ us) = choice (Right Base b (t ∷ us)) (eqb (symOf t) leftRound) (λ e. f t us (eqb-true _ _ e)) (λ _. base-named t us (type-named (symOf t)))
+base-right {b} k f (t ∷ us) =
+    choice (Right Base b (t ∷ us)) (eqb (symOf t) leftRound) (λ e. f t us (eqb-true _ _ e)) (λ _. base-named t us (type-named (symOf t)))
 
 -- a type is its base and its pairs
 type-of : {b : ℕ} {f : Reader Ty} {g : Ty → Reader Ty} →
@@ -263,15 +284,18 @@ type-of h k =
 
 pub type-reads : (b : ℕ) → Reads IsType b (type b)
 unfolding type
-type-reads zero = type-of (base-right _ (λ t us e. ten [] refl a-base (behind (tuple-types-reads faults-shrinks (faults-reads a-type-sample) t e .some)))) no-dims-right
-type-reads (suc b) = type-of (base-right _ (λ t us e. shift Base t (deeper (Past Base t) (tuple-types-reads (type-shrinks b) (type-reads b) t e .each us)))) dims-right
+type-reads zero =
+    type-of (base-right _ (λ t us e. ten [] refl a-base (behind (tuple-types-reads faults-shrinks (faults-reads a-type-sample) t e .some)))) no-dims-right
+type-reads (suc b) =
+    type-of (base-right _ (λ t us e. shift Base t (deeper (Past Base t) (tuple-types-reads (type-shrinks b) (type-reads b) t e .each us)))) dims-right
 
 -- ---- operation lists
 
 pub default-reads : (b : ℕ) → Reads IsDefault b (default b)
 unfolding default
 default-reads b =
-    if-begins IsDefault equal (λ e s. into (Spells literals) (Past IsDefault e) some (value-reads literals b) (λ c us v ws h. a-default s h)) (finish nothing (λ c us. no-default))
+    if-begins IsDefault equal (λ e s. into (Spells literals) (Past IsDefault e) some (value-reads literals b) (λ c us v ws h. a-default s h))
+    (finish nothing (λ c us. no-default))
 
 pub param-reads : (b : ℕ) → Reads IsParam b (param b)
 unfolding param
@@ -361,7 +385,8 @@ abbrev FromFirst : Token → Value → Phrase Value
 FromFirst t v b us x ws = (ts : List Token) → Spells names b (t ∷ ts) v us → IsLeft b (t ∷ ts) x ws
 
 left-from-first : {b : ℕ} (t : Token) (v : Value) → Reads (FromFirst t v) b (λ us.
-    cond (begins equal us) (ok v (rest us)) (then (expect comma us) (λ c ws. mapped (λ vs. tuple t (more v vs)) (row values (commas equal) (value names b) ws))))
+    cond (begins equal us) (ok v (rest us))
+    (then (expect comma us) (λ c ws. mapped (λ vs. tuple t (more v vs)) (row values (commas equal) (value names b) ws))))
 left-from-first {b} t v =
     if-begins (FromFirst t v) equal (λ e s. finish v (λ c us ts g. one-pattern g s))
     (expects (FromFirst t v) (mark comma) (λ c s.
@@ -397,13 +422,15 @@ a-left = begun (Spells names) IsLeft (a-leaf names) is-left
 left-right : (b : ℕ) (ts : List Token) → Right IsLeft b ts (left b ts)
 unfolding left
 left-right b [] = nine [] refl a-left
-left-right b (t ∷ ts) = from-right (Spells names) IsLeft _ (value-reads names b .each (t ∷ ts)) is-left (λ v us q d e h. left-from b t ts v us q e h (left-from-first t v .each us))
+left-right b (t ∷ ts) =
+    from-right (Spells names) IsLeft _ (value-reads names b .each (t ∷ ts)) is-left (λ v us q d e h. left-from b t ts v us q e h (left-from-first t v .each us))
 
 pub left-reads : (b : ℕ) → Reads IsLeft b (left b)
 left-reads b = record { each = left-right b; some = a-left }
 
 -- a call and its semicolon
-end-reads : {A : Type 0} {T : Phrase A} {b : ℕ} (a : A) → ((c : ℕ) (us ws : List Token) → IsEnd us ws → T c us a ws) → Reads T b (λ us. ok a (cond (begins semicolon us) (rest us) us))
+end-reads : {A : Type 0} {T : Phrase A} {b : ℕ} (a : A) → ((c : ℕ) (us ws : List Token) → IsEnd us ws → T c us a ws)
+    → Reads T b (λ us. ok a (cond (begins semicolon us) (rest us) us))
 end-reads {A} {T} {b} a h = record { each = go; some = none-more .some }
   where
     none-more : Reads T b (λ us. ok a us)
@@ -412,7 +439,8 @@ end-reads {A} {T} {b} a h = record { each = go; some = none-more .some }
     go : (us : List Token) → Right T b us (ok a (cond (begins semicolon us) (rest us) us))
     go [] = none-more .each []
     go (t ∷ us) =
-        choice (λ x. Right T b (t ∷ us) (ok a x)) (eqb (symOf t) semicolon) (λ e. good (t ∷ []) refl (λ c ws k. h c (t ∷ ws) ws (a-semicolon (eqb-true _ _ e)))) (λ _.
+        choice (λ x. Right T b (t ∷ us) (ok a x)) (eqb (symOf t) semicolon) (λ e. good (t ∷ []) refl (λ c ws k. h c (t ∷ ws) ws (a-semicolon (eqb-true _ _ e))))
+        (λ _.
         none-more .each (t ∷ us))
 
 pub call-reads : (b : ℕ) → Reads IsCall b (call b)
@@ -431,7 +459,9 @@ body-next : Next plain (closed rightCurly) IsCall IsBody
 body-next b ts x m us xs ws h closed-on s = next-call h s
 
 pub body-reads : (b : ℕ) → Reads IsBody b (row plain (closed rightCurly) (call b))
-body-reads b = rows plain (closed rightCurly) IsCall IsBody body-last body-next (mark rightCurly .token ∷ []) (a-last (mark rightCurly .is)) (call-shrinks b) (call-reads b)
+body-reads b =
+    rows plain (closed rightCurly) IsCall IsBody body-last body-next (mark rightCurly .token ∷ []) (a-last (mark rightCurly .is)) (call-shrinks b)
+    (call-reads b)
 
 -- a document, and the end after it
 abbrev pub Documented : Phrase Document

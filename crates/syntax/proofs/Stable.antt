@@ -18,9 +18,11 @@ use Rattle.syntax.proofs.Limit.Raised.{same-tree, same-fault}
 -- what the readers f give under the bracket limit b on the tokens ts; p are the tokens before those not read
 pub data Stable {A : Type 0} (f : ℕ → Reader A) (b : ℕ) (ts : List Token) : Parse A → Type 0 where
   -- a tree, and the same tree under every higher limit
-  went : {a : A} {us : List Token} (p : List Token) → ts ≡ p ++ us → ((b' : ℕ) (ws : List Token) → b ≤ b' → Alike us ws → f b' (p ++ ws) ≡ ok a ws) → Stable f b ts (ok a us)
+  went : {a : A} {us : List Token} (p : List Token) → ts ≡ p ++ us → ((b' : ℕ) (ws : List Token) → b ≤ b' → Alike us ws → f b' (p ++ ws) ≡ ok a ws)
+      → Stable f b ts (ok a us)
   -- a fault, and the same fault under every higher limit
-  nine : {us : List Token} (p : List Token) → ts ≡ p ++ us → ((b' : ℕ) (ws : List Token) → b ≤ b' → Alike us ws → f b' (p ++ ws) ≡ bad 9 ws) → Stable f b ts (bad 9 us)
+  nine : {us : List Token} (p : List Token) → ts ≡ p ++ us → ((b' : ℕ) (ws : List Token) → b ≤ b' → Alike us ws → f b' (p ++ ws) ≡ bad 9 ws)
+      → Stable f b ts (bad 9 us)
   -- a bracket more than may be open
   ten : {us : List Token} (p : List Token) → ts ≡ p ++ us → ((ws : List Token) → Alike us ws → f b (p ++ ws) ≡ bad 10 ws) → Stable f b ts (bad 10 us)
 

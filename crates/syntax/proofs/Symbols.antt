@@ -51,7 +51,8 @@ module _ (text table : List ℕ) (n i : ℕ) where
   -- past one token
   pub one-more : i < n → Done (i + 1) ≡ Done (n - length (rest (toks text table n i)))
   one-more h =
-      let l : length (rest (toks text table n i)) ≡ n - (i + 1) = ap (λ (ws : List Token). length ws) (toks-rest text table n i) ∙ toks-length text table n (i + 1) in
+      let l : length (rest (toks text table n i)) ≡ n - (i + 1) = ap (λ (ws : List Token). length ws) (toks-rest text table n i)
+      ∙ toks-length text table n (i + 1) in
       let q : i + 1 ≡ n - length (rest (toks text table n i)) = omega arith in
       ap Done q
 

@@ -29,7 +29,8 @@ module _ (text table : List ℕ) where
   from-length i (suc k) = ap suc (from-length (i + 1) k)
 
   -- the place where an end of k tokens from i starts
-  from-suffix : (i k : ℕ) {us : List Token} → Suffix (tokensFrom text table i k) us → (j : ℕ) × (i ≤ j) × (j ≤ i + k) × (us ≡ tokensFrom text table j ((i + k) - j))
+  from-suffix : (i k : ℕ) {us : List Token} → Suffix (tokensFrom text table i k) us
+      → (j : ℕ) × (i ≤ j) × (j ≤ i + k) × (us ≡ tokensFrom text table j ((i + k) - j))
   unfolding tokensFrom
   from-suffix i zero all = (i, omega arith, omega arith, sym (from-none i ((i + 0) - i) (omega arith)))
   from-suffix i (suc k) all =
@@ -63,7 +64,8 @@ module _ (text table : List ℕ) where
         let l : length us ≡ (i + (n - i)) - r .0 = ap (λ (ws : List Token). length ws) (r .3) ∙ from-length (r .0) ((i + (n - i)) - r .0) in
         go (leb i n) refl r l
       where
-        go : (b : Bool) → leb i n ≡ b → (r : (j : ℕ) × (i ≤ j) × (j ≤ i + (n - i)) × (us ≡ tokensFrom text table j ((i + (n - i)) - j))) → length us ≡ (i + (n - i)) - r .0 → us ≡ toks text table n (n - length us)
+        go : (b : Bool) → leb i n ≡ b → (r : (j : ℕ) × (i ≤ j) × (j ≤ i + (n - i)) × (us ≡ tokensFrom text table j ((i + (n - i)) - j)))
+            → length us ≡ (i + (n - i)) - r .0 → us ≡ toks text table n (n - length us)
         go true e r l =
             let w = leb-true i n e in
             let p : r .0 ≡ n - length us = omega arith in

@@ -8,12 +8,15 @@ use lib.Dec.{eqb}
 use lib.ListN.{length}
 use Rattle.lexis.specs.Sizes.{maxBrackets}
 use Rattle.lexis.specs.Lexer.{Token}
-use Rattle.lexis.specs.Symbol.{symOf, isLiteral, leftRound, leftSquare, rightSquare, colon, equal, comma, semicolon, leftCurly, arrow, aName, aNumber, version, graph, fragment}
+use Rattle.lexis.specs.Symbol.{symOf, isLiteral, leftRound, leftSquare, rightSquare, colon, equal, comma, semicolon, leftCurly, arrow, aName, aNumber, version}
+use Rattle.lexis.specs.Symbol.{graph, fragment}
 use Rattle.syntax.specs.Tree.{Value, Ty}
 use Rattle.syntax.specs.Tree.Value.{name, literal, array, tuple}
 use Rattle.syntax.specs.Tree.Ty.{arrayOf}
 use Rattle.syntax.specs.Grammar.{Leaves, names, literals, both, takesNames, takesLiterals}
-use Rattle.syntax.specs.Parser.{Parse, Reader, Row, Follow, Lists, then, mapped, expect, begins, rest, follow, onward, rowF, row, valueStep, arrayItems, tupleItems, bracketed, value, typeName, dims, tupleTypes, named-type, baseStep, type, default, param, result, header, labelled, argument, left, call, operations, atEnd, document, parseList, parseDocument}
+use Rattle.syntax.specs.Parser.{Parse, Reader, Row, Follow, Lists, then, mapped, expect, begins, rest, follow, onward, rowF, row, valueStep, arrayItems}
+use Rattle.syntax.specs.Parser.{tupleItems, bracketed, value, typeName, dims, tupleTypes, named-type, baseStep, type, default, param, result, header}
+use Rattle.syntax.specs.Parser.{labelled, argument, left, call, operations, atEnd, document, parseList, parseDocument}
 use Rattle.syntax.specs.Parser.Parse.{ok, bad}
 use Rattle.syntax.specs.Parser.Row.{commas, closed, to-the-end}
 use Rattle.syntax.specs.Parser.Follow.{again, done, neither}
@@ -47,7 +50,8 @@ Tails item = (ts : List Token) → Takes ts (item ts)
 
 -- ---- the combinators
 
-pub then-takes : {A B : Type 0} {ts : List Token} {x : Parse A} {k : A → Reader B} → Takes ts x → ((a : A) (us : List Token) → Suffix ts us → Takes ts (k a us)) → Takes ts (then x k)
+pub then-takes : {A B : Type 0} {ts : List Token} {x : Parse A} {k : A → Reader B} → Takes ts x
+    → ((a : A) (us : List Token) → Suffix ts us → Takes ts (k a us)) → Takes ts (then x k)
 then-takes (took h) f = f _ _ h
 then-takes (fault h) f = fault h
 
@@ -85,7 +89,8 @@ follow-behind (closed close) (t ∷ us) = cond-has (λ f. Behind (t ∷ us) f) (
 follow-behind to-the-end [] = last all
 follow-behind to-the-end (t ∷ us) = next all
 
-onward-takes : {A : Type 0} {us : List Token} {f : Follow} {k j : List Token → Parse A} → Behind us f → ((ws : List Token) → Takes ws (k ws)) → ((ws : List Token) → Takes ws (j ws)) → Takes us (onward f us k j)
+onward-takes : {A : Type 0} {us : List Token} {f : Follow} {k j : List Token → Parse A} → Behind us f → ((ws : List Token) → Takes ws (k ws))
+    → ((ws : List Token) → Takes ws (j ws)) → Takes us (onward f us k j)
 onward-takes (next h) p q = further h (p _)
 onward-takes (last h) p q = further h (q _)
 onward-takes stop p q = fault all
@@ -161,7 +166,9 @@ base-step-tails opened h (t ∷ ts) = cond-takes (eqb (symOf t) leftRound) (h t 
 pub type-tails : (b : ℕ) → Tails (type b)
 unfolding type
 type-tails zero ts = then-takes (base-step-tails _ (λ t us. fault all) ts) (λ u us p. further p (dims-tails false u us))
-type-tails (suc b) ts = then-takes (base-step-tails _ (λ t us. further (past all) (tuple-types-tails (type b) (λ ws. type-tails b ws) us)) ts) (λ u us p. further p (dims-tails true u us))
+type-tails (suc b) ts =
+    then-takes (base-step-tails _ (λ t us. further (past all) (tuple-types-tails (type b) (λ ws. type-tails b ws) us)) ts)
+    (λ u us p. further p (dims-tails true u us))
 
 pub base-tails : (b : ℕ) → Tails (baseOf b)
 unfolding baseOf

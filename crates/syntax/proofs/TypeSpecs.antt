@@ -37,7 +37,8 @@ unfolding isTypeWord
 word-not s a b c d = simp (ne-eqb s tensorWord a, ne-eqb s extentWord b, ne-eqb s scalarWord c, ne-eqb s logicalWord d)
 
 named-by : (e n : ℕ) (t : Token) (us : List Token) (a b c d f : Bool) → cond a true (cond b true (cond c true (cond d true f))) ≡ true
-    → parsed e n (named-type (cond a (some tensor) (cond b (some extent) (cond c (some scalar) (cond d (some logical) (cond f (some string) nothing))))) t us) ≡ Done (n - length us)
+    → parsed e n (named-type (cond a (some tensor) (cond b (some extent) (cond c (some scalar) (cond d (some logical) (cond f (some string) nothing))))) t us)
+    ≡ Done (n - length us)
 named-by e n t us true b c d f h = refl
 named-by e n t us false true c d f h = refl
 named-by e n t us false false true d f h = refl
@@ -46,7 +47,8 @@ named-by e n t us false false false false true h = refl
 named-by e n t us false false false false false h = clash h
 
 unnamed-by : (t : Token) (us : List Token) (a b c d f : Bool) → cond a true (cond b true (cond c true (cond d true f))) ≡ false
-    → named-type (cond a (some tensor) (cond b (some extent) (cond c (some scalar) (cond d (some logical) (cond f (some string) nothing))))) t us ≡ bad 9 (t ∷ us)
+    → named-type (cond a (some tensor) (cond b (some extent) (cond c (some scalar) (cond d (some logical) (cond f (some string) nothing))))) t us ≡ bad 9
+    (t ∷ us)
 unnamed-by t us true b c d f h = clash (sym h)
 unnamed-by t us false true c d f h = clash (sym h)
 unnamed-by t us false false true d f h = clash (sym h)
@@ -66,14 +68,16 @@ module _ (e n : ℕ) (opened : Token → Reader Ty) where
   base-word [] h = clash h
   base-word (t ∷ us) h =
       let s = symOf t in
-      simp (ne-eqb (symOf t) leftRound (round-not (symOf t) h)) (named-by e n t us (eqb s tensorWord) (eqb s extentWord) (eqb s scalarWord) (eqb s logicalWord) (eqb s stringWord) h)
+      simp (ne-eqb (symOf t) leftRound (round-not (symOf t) h))
+      (named-by e n t us (eqb s tensorWord) (eqb s extentWord) (eqb s scalarWord) (eqb s logicalWord) (eqb s stringWord) h)
 
   base-not : (ts : List Token) → isTypeWord (lookahead ts) ≡ false → (lookahead ts ≡ leftRound → ⊥) → parsed e n (baseStep opened ts) ≡ Fault 9 (placeOf e ts)
   unfolding baseStep typeName isTypeWord
   base-not [] h z = refl
   base-not (t ∷ us) h z =
       let s = symOf t in
-      simp (ne-eqb (symOf t) leftRound z) (ap (parsed e n) (unnamed-by t us (eqb s tensorWord) (eqb s extentWord) (eqb s scalarWord) (eqb s logicalWord) (eqb s stringWord) h))
+      simp (ne-eqb (symOf t) leftRound z)
+      (ap (parsed e n) (unnamed-by t us (eqb s tensorWord) (eqb s extentWord) (eqb s scalarWord) (eqb s logicalWord) (eqb s stringWord) h))
 
   base-open : (ts : List Token) → lookahead ts ≡ leftRound → parsed e n (baseStep opened ts) ≡ parsed e n (begun opened ts)
   unfolding baseStep
@@ -99,11 +103,13 @@ base-is-full : (e n b : ℕ) (ts : List Token) → lookahead ts ≡ leftRound �
 unfolding baseOf
 base-is-full e n b ts h z = ap (λ (k : ℕ). parsed e n (baseOf k ts)) z ∙ (base-open e n _ ts h ∙ full-by e n ts h)
 
-tuple-by : (e n b : ℕ) (ts : List Token) → lookahead ts ≡ leftRound → parsed e n (begun (λ t us. tupleTypes (type b) us) ts) ≡ parsed e n (tupleTypes (type b) (rest ts))
+tuple-by : (e n b : ℕ) (ts : List Token) → lookahead ts ≡ leftRound
+    → parsed e n (begun (λ t us. tupleTypes (type b) us) ts) ≡ parsed e n (tupleTypes (type b) (rest ts))
 tuple-by e n b [] h = let x : _≡_ {A = ℕ} 267 40 = h in absurd (omega arith)
 tuple-by e n b (t ∷ us) h = refl
 
-base-is-tuple : (e n b : ℕ) (ts : List Token) → lookahead ts ≡ leftRound → (b ≡ 0 → ⊥) → parsed e n (baseOf b ts) ≡ parsed e n (tupleTypes (type (b - 1)) (rest ts))
+base-is-tuple : (e n b : ℕ) (ts : List Token) → lookahead ts ≡ leftRound → (b ≡ 0 → ⊥)
+    → parsed e n (baseOf b ts) ≡ parsed e n (tupleTypes (type (b - 1)) (rest ts))
 unfolding baseOf
 base-is-tuple e n b ts h z =
     let q : b ≡ suc (b - 1) = omega arith in
@@ -112,13 +118,15 @@ base-is-tuple e n b ts h z =
 -- ---- pairs of brackets
 
 any-by : (e n : ℕ) (o c : Token) (ts : List Token) (p q r : Bool) (u w : Ty) (x y : Parse Ty) → parsed e n x ≡ parsed e n y
-    → parsed e n (cond p (cond q (cond r x (bad 9 (c ∷ ts))) (bad 10 (o ∷ c ∷ ts))) (ok u (o ∷ c ∷ ts))) ≡ parsed e n (cond p (cond q (cond r y (bad 9 (c ∷ ts))) (bad 10 (o ∷ c ∷ ts))) (ok w (o ∷ c ∷ ts)))
+    → parsed e n (cond p (cond q (cond r x (bad 9 (c ∷ ts))) (bad 10 (o ∷ c ∷ ts))) (ok u (o ∷ c ∷ ts))) ≡ parsed e n
+    (cond p (cond q (cond r y (bad 9 (c ∷ ts))) (bad 10 (o ∷ c ∷ ts))) (ok w (o ∷ c ∷ ts)))
 any-by e n o c ts false q r u w x y h = refl
 any-by e n o c ts true false r u w x y h = refl
 any-by e n o c ts true true false u w x y h = refl
 any-by e n o c ts true true true u w x y h = h
 
-one-by : (e n : ℕ) (o : Token) (p q : Bool) (u w : Ty) → parsed e n (cond p (cond q (bad 9 []) (bad 10 (o ∷ []))) (ok u (o ∷ []))) ≡ parsed e n (cond p (cond q (bad 9 []) (bad 10 (o ∷ []))) (ok w (o ∷ [])))
+one-by : (e n : ℕ) (o : Token) (p q : Bool) (u w : Ty)
+    → parsed e n (cond p (cond q (bad 9 []) (bad 10 (o ∷ []))) (ok u (o ∷ []))) ≡ parsed e n (cond p (cond q (bad 9 []) (bad 10 (o ∷ []))) (ok w (o ∷ [])))
 one-by e n o false q u w = refl
 one-by e n o true false u w = refl
 one-by e n o true true u w = refl
@@ -157,23 +165,33 @@ dims-pair u (o ∷ c ∷ ts) h k = simp (eq-eqb (symOf o) leftSquare h, eq-eqb (
 
 -- ---- the parts of a type
 
-pub type-is : (text table : List ℕ) (e n i b : ℕ) → parsed e n (type b (toks text table n i)) ≡ onwards (parsed e n (baseOf b (toks text table n i))) (λ j. parsed e n (dims (ltb 0 b) tensor (toks text table n j)))
+pub type-is : (text table : List ℕ) (e n i b : ℕ)
+    → parsed e n (type b (toks text table n i)) ≡ onwards (parsed e n (baseOf b (toks text table n i)))
+    (λ j. parsed e n (dims (ltb 0 b) tensor (toks text table n j)))
 unfolding type baseOf
 type-is text table e n i zero =
-    chain text table e n i (dims false) ((λ j. parsed e n (dims false tensor (toks text table n j))) ∷ []) (base-tails zero (toks text table n i)) (λ u j. dims-any e n false u tensor (toks text table n j))
+    chain text table e n i (dims false) ((λ j. parsed e n (dims false tensor (toks text table n j))) ∷ []) (base-tails zero (toks text table n i))
+    (λ u j. dims-any e n false u tensor (toks text table n j))
 type-is text table e n i (suc b) =
     let h : 0 < suc b = omega arith in
     rw (lt-ltb 0 (suc b))
-    (chain text table e n i (dims true) ((λ j. parsed e n (dims true tensor (toks text table n j))) ∷ []) (base-tails (suc b) (toks text table n i)) (λ u j. dims-any e n true u tensor (toks text table n j)))
+    (chain text table e n i (dims true) ((λ j. parsed e n (dims true tensor (toks text table n j))) ∷ []) (base-tails (suc b) (toks text table n i))
+    (λ u j. dims-any e n true u tensor (toks text table n j)))
 
 -- ---- the ways out of the code, by the terminal s at place i
 
 module _ (text table : List ℕ) (e n i b : ℕ) where
-  pub tuple-types-is : parsed e n (tupleTypes (type b) (toks text table n i)) ≡ onwards (onwards (parsed e n (type b (toks text table n i))) (λ j. parsed e n (expect comma (toks text table n j)))) (λ j. parsed e n (row types (commas rightRound) (type b) (toks text table n j)))
+  pub tuple-types-is : parsed e n (tupleTypes (type b) (toks text table n i)) ≡ onwards
+      (onwards (parsed e n (type b (toks text table n i))) (λ j. parsed e n (expect comma (toks text table n j))))
+      (λ j. parsed e n (row types (commas rightRound) (type b) (toks text table n j)))
   unfolding tupleTypes
   tuple-types-is =
-      chain text table e n i _ ((λ j. parsed e n (expect comma (toks text table n j))) ∷ (λ j. parsed e n (row types (commas rightRound) (type b) (toks text table n j))) ∷ []) (type-tails b (toks text table n i)) (λ u j.
-      chain text table e n j _ ((λ j. parsed e n (row types (commas rightRound) (type b) (toks text table n j))) ∷ []) (expect-tails comma (toks text table n j)) (λ c k. mapped-same e n (λ vs. tupleOf (a-type u vs)) (row types (commas rightRound) (type b) (toks text table n k))))
+      chain text table e n i _
+      ((λ j. parsed e n (expect comma (toks text table n j))) ∷ (λ j. parsed e n (row types (commas rightRound) (type b) (toks text table n j))) ∷ [])
+      (type-tails b (toks text table n i)) (λ u j.
+      chain text table e n j _ ((λ j. parsed e n (row types (commas rightRound) (type b) (toks text table n j))) ∷ [])
+      (expect-tails comma (toks text table n j))
+      (λ c k. mapped-same e n (λ vs. tupleOf (a-type u vs)) (row types (commas rightRound) (type b) (toks text table n k))))
 
   module _ {s : ℕ} (sees : s ≡ lookahead (toks text table n i)) where
     pub word-stands : isTypeWord s ≡ true → i < n
@@ -183,13 +201,15 @@ module _ (text table : List ℕ) (e n i b : ℕ) where
     pub at-word : isTypeWord s ≡ true → Done (i + 1) ≡ parsed e n (baseOf b (toks text table n i))
     at-word h = one-more text table n i (word-stands h) ∙ sym (base-is-word e n _ b (ap isTypeWord (sym sees) ∙ h))
 
-    pub at-not : {r : Parsed} → isTypeWord s ≡ false → (s ≡ leftRound → ⊥) → r ≡ Fault 9 (placeOf e (toks text table n i)) → r ≡ parsed e n (baseOf b (toks text table n i))
+    pub at-not : {r : Parsed} → isTypeWord s ≡ false → (s ≡ leftRound → ⊥) → r ≡ Fault 9 (placeOf e (toks text table n i))
+        → r ≡ parsed e n (baseOf b (toks text table n i))
     at-not h z p = p ∙ sym (base-is-not e n _ b (ap isTypeWord (sym sees) ∙ h) (λ w. z (sees ∙ w)))
 
     pub at-full : {r : Parsed} → s ≡ leftRound → b ≡ 0 → r ≡ Fault 10 (placeOf e (toks text table n i)) → r ≡ parsed e n (baseOf b (toks text table n i))
     at-full h z p = p ∙ sym (base-is-full e n b _ (sym sees ∙ h) z)
 
-    pub at-tuple : {r : Parsed} → s ≡ leftRound → (b ≡ 0 → ⊥) → r ≡ parsed e n (tupleTypes (type (b - 1)) (toks text table n (i + 1))) → r ≡ parsed e n (baseOf b (toks text table n i))
+    pub at-tuple : {r : Parsed} → s ≡ leftRound → (b ≡ 0 → ⊥) → r ≡ parsed e n (tupleTypes (type (b - 1)) (toks text table n (i + 1)))
+        → r ≡ parsed e n (baseOf b (toks text table n i))
     at-tuple h z p =
         p ∙ ap (λ (ts : List Token). parsed e n (tupleTypes (type (b - 1)) ts)) (sym (toks-rest text table n i)) ∙ sym (base-is-tuple e n b _ (sym sees ∙ h) z)
 
@@ -198,7 +218,10 @@ module _ (text table : List ℕ) (e n i b : ℕ) where
 
     module _ (h : s ≡ leftSquare) where
       pub pairs-full : {r : Parsed} → b ≡ 0 → r ≡ Fault 10 (placeOf e (toks text table n i)) → r ≡ parsed e n (dims (ltb 0 b) tensor (toks text table n i))
-      pairs-full z p = p ∙ sym (ap (λ (y : Bool). parsed e n (dims y tensor (toks text table n i))) (le-ltb 0 b (omega arith)) ∙ ap (parsed e n) (dims-full tensor _ (sym sees ∙ h)))
+      pairs-full z p =
+          p
+          ∙ sym
+          (ap (λ (y : Bool). parsed e n (dims y tensor (toks text table n i))) (le-ltb 0 b (omega arith)) ∙ ap (parsed e n) (dims-full tensor _ (sym sees ∙ h)))
 
       module _ (z : b ≡ 0 → ⊥) {s' : ℕ} (sees' : s' ≡ lookahead (toks text table n (i + 1))) where
         may : parsed e n (dims (ltb 0 b) tensor (toks text table n i)) ≡ parsed e n (dims true tensor (toks text table n i))
@@ -207,11 +230,14 @@ module _ (text table : List ℕ) (e n i b : ℕ) where
         next : s' ≡ lookahead (rest (toks text table n i))
         next = sees' ∙ ap lookahead (sym (toks-rest text table n i))
 
-        pub pairs-half : {r : Parsed} → (s' ≡ rightSquare → ⊥) → r ≡ Fault 9 (placeOf e (toks text table n (i + 1))) → r ≡ parsed e n (dims (ltb 0 b) tensor (toks text table n i))
+        pub pairs-half : {r : Parsed} → (s' ≡ rightSquare → ⊥) → r ≡ Fault 9 (placeOf e (toks text table n (i + 1)))
+            → r ≡ parsed e n (dims (ltb 0 b) tensor (toks text table n i))
         pairs-half k p =
-            p ∙ ap (λ (ts : List Token). Fault 9 (placeOf e ts)) (sym (toks-rest text table n i)) ∙ sym (may ∙ ap (parsed e n) (dims-half tensor _ (sym sees ∙ h) (λ w. k (next ∙ w))))
+            p ∙ ap (λ (ts : List Token). Fault 9 (placeOf e ts)) (sym (toks-rest text table n i))
+            ∙ sym (may ∙ ap (parsed e n) (dims-half tensor _ (sym sees ∙ h) (λ w. k (next ∙ w))))
 
-        pub pairs-more : s' ≡ rightSquare → parsed e n (dims (ltb 0 b) tensor (toks text table n i)) ≡ parsed e n (dims (ltb 0 b) tensor (toks text table n (i + 1 + 1)))
+        pub pairs-more : s' ≡ rightSquare
+            → parsed e n (dims (ltb 0 b) tensor (toks text table n i)) ≡ parsed e n (dims (ltb 0 b) tensor (toks text table n (i + 1 + 1)))
         pairs-more k =
             may ∙ (ap (parsed e n) (dims-pair tensor _ (sym sees ∙ h) (sym next ∙ k))
             ∙ (dims-any e n true (arrayOf tensor) tensor (rest (rest (toks text table n i)))

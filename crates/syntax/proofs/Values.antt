@@ -64,25 +64,30 @@ no-leaf both = refl
 -- ---- a value by its first token
 
 module _ (e n : ℕ) where
-  leaf-by : (t : Token) (us : List Token) (p q : Bool) (z : Parse Value) → (p || q) ≡ true → parsed e n (cond p (ok (name t) us) (cond q (ok (literal t) us) z)) ≡ Done (n - length us)
+  leaf-by : (t : Token) (us : List Token) (p q : Bool) (z : Parse Value) → (p || q) ≡ true
+      → parsed e n (cond p (ok (name t) us) (cond q (ok (literal t) us) z)) ≡ Done (n - length us)
   leaf-by t us true q z h = refl
   leaf-by t us false true z h = refl
   leaf-by t us false false z h = clash h
 
-  step-leaf : (m : Leaves) (opened : Token → Reader Value) (ts : List Token) → isLeaf m (lookahead ts) ≡ true → parsed e n (valueStep m opened ts) ≡ Done (n - length (rest ts))
+  step-leaf : (m : Leaves) (opened : Token → Reader Value) (ts : List Token) → isLeaf m (lookahead ts) ≡ true
+      → parsed e n (valueStep m opened ts) ≡ Done (n - length (rest ts))
   unfolding valueStep isLeaf
   step-leaf m opened [] h = clash (sym (no-leaf m) ∙ h)
   step-leaf m opened (t ∷ us) h = leaf-by t us (takesNames m && eqb (symOf t) aName) (takesLiterals m && isLiteral (symOf t)) _ h
 
-open-by : (t : Token) (us : List Token) (p q r : Bool) (y z : Parse Value) → (p || q) ≡ false → cond p (ok (name t) us) (cond q (ok (literal t) us) (cond r y z)) ≡ cond r y z
+open-by : (t : Token) (us : List Token) (p q r : Bool) (y z : Parse Value) → (p || q) ≡ false
+    → cond p (ok (name t) us) (cond q (ok (literal t) us) (cond r y z)) ≡ cond r y z
 open-by t us true q r y z h = clash (sym h)
 open-by t us false true r y z h = clash (sym h)
 open-by t us false false r y z h = refl
 
-step-other : (m : Leaves) (opened : Token → Reader Value) (ts : List Token) → isLeaf m (lookahead ts) ≡ false → valueStep m opened ts ≡ cond (opens (lookahead ts)) (begun opened ts) (bad 9 ts)
+step-other : (m : Leaves) (opened : Token → Reader Value) (ts : List Token) → isLeaf m (lookahead ts) ≡ false
+    → valueStep m opened ts ≡ cond (opens (lookahead ts)) (begun opened ts) (bad 9 ts)
 unfolding valueStep isLeaf
 step-other m opened [] h = refl
-step-other m opened (t ∷ us) h = open-by t us (takesNames m && eqb (symOf t) aName) (takesLiterals m && isLiteral (symOf t)) (opens (symOf t)) (opened t us) (bad 9 (t ∷ us)) h
+step-other m opened (t ∷ us) h =
+    open-by t us (takesNames m && eqb (symOf t) aName) (takesLiterals m && isLiteral (symOf t)) (opens (symOf t)) (opened t us) (bad 9 (t ∷ us)) h
 
 pub value-leaf : (m : Leaves) (e n b : ℕ) (ts : List Token) → isLeaf m (lookahead ts) ≡ true → parsed e n (value m b ts) ≡ Done (n - length (rest ts))
 unfolding value
@@ -117,7 +122,8 @@ module _ (m : Leaves) (e n : ℕ) (ts : List Token) (h : isLeaf m (lookahead ts)
       unfolding bracketed
       value-array s = inside ∙ go ts s
         where
-          go : (us : List Token) → lookahead us ≡ leftSquare → parsed e n (begun (bracketed (λ ws. value m (b - 1) ws)) us) ≡ parsed e n (arrayItems (value m (b - 1)) (rest us))
+          go : (us : List Token) → lookahead us ≡ leftSquare
+              → parsed e n (begun (bracketed (λ ws. value m (b - 1) ws)) us) ≡ parsed e n (arrayItems (value m (b - 1)) (rest us))
           go [] s = let x : _≡_ {A = ℕ} 267 91 = s in absurd (omega arith)
           go (t ∷ us) s = simp (eq-eqb (symOf t) leftSquare s) (mapped-same e n (array t) (arrayItems (value m (b - 1)) us))
 
@@ -125,7 +131,8 @@ module _ (m : Leaves) (e n : ℕ) (ts : List Token) (h : isLeaf m (lookahead ts)
       unfolding bracketed
       value-tuple s = inside ∙ go ts o s
         where
-          go : (us : List Token) → opens (lookahead us) ≡ true → (lookahead us ≡ leftSquare → ⊥) → parsed e n (begun (bracketed (λ ws. value m (b - 1) ws)) us) ≡ parsed e n (tupleItems (value m (b - 1)) (rest us))
+          go : (us : List Token) → opens (lookahead us) ≡ true → (lookahead us ≡ leftSquare → ⊥)
+              → parsed e n (begun (bracketed (λ ws. value m (b - 1) ws)) us) ≡ parsed e n (tupleItems (value m (b - 1)) (rest us))
           go [] o s = clash o
           go (t ∷ us) o s = simp (ne-eqb (symOf t) leftSquare s) (mapped-same e n (tuple t) (tupleItems (value m (b - 1)) us))
 
@@ -141,11 +148,16 @@ module _ (val : Reader Value) (e n : ℕ) (ts : List Token) where
   array-items h = simp (begins-look rightSquare ts (omega arith), ne-eqb (lookahead ts) rightSquare h)
 
 module _ (m : Leaves) (b : ℕ) (text table : List ℕ) (e n i : ℕ) where
-  pub tuple-is : parsed e n (tupleItems (value m b) (toks text table n i)) ≡ onwards (onwards (parsed e n (value m b (toks text table n i))) (λ j. parsed e n (expect comma (toks text table n j)))) (λ j. parsed e n (row values (commas rightRound) (value m b) (toks text table n j)))
+  pub tuple-is : parsed e n (tupleItems (value m b) (toks text table n i)) ≡ onwards
+      (onwards (parsed e n (value m b (toks text table n i))) (λ j. parsed e n (expect comma (toks text table n j))))
+      (λ j. parsed e n (row values (commas rightRound) (value m b) (toks text table n j)))
   unfolding tupleItems
   tuple-is =
-      chain text table e n i _ ((λ j. parsed e n (expect comma (toks text table n j))) ∷ (λ j. parsed e n (row values (commas rightRound) (value m b) (toks text table n j))) ∷ []) (value-tails m b (toks text table n i)) (λ v j.
-      chain text table e n j _ ((λ j. parsed e n (row values (commas rightRound) (value m b) (toks text table n j))) ∷ []) (expect-tails comma (toks text table n j)) (λ c k. mapped-same e n (more v) (row values (commas rightRound) (value m b) (toks text table n k))))
+      chain text table e n i _
+      ((λ j. parsed e n (expect comma (toks text table n j))) ∷ (λ j. parsed e n (row values (commas rightRound) (value m b) (toks text table n j))) ∷ [])
+      (value-tails m b (toks text table n i)) (λ v j.
+      chain text table e n j _ ((λ j. parsed e n (row values (commas rightRound) (value m b) (toks text table n j))) ∷ [])
+      (expect-tails comma (toks text table n j)) (λ c k. mapped-same e n (more v) (row values (commas rightRound) (value m b) (toks text table n k))))
 
 -- ---- the ways out of the code, by the terminal s at place i
 
@@ -153,7 +165,8 @@ module _ (text table : List ℕ) (e n i : ℕ) {s : ℕ} (sees : s ≡ lookahead
   pub at-close : (val : Reader Value) → s ≡ rightSquare → Done (i + 1) ≡ parsed e n (arrayItems val (toks text table n i))
   at-close val h = one-more text table n i (stands text table n i sees (omega arith)) ∙ sym (array-close val e n _ (sym sees ∙ h))
 
-  pub at-items : (val : Reader Value) {r : Parsed} → (s ≡ rightSquare → ⊥) → r ≡ parsed e n (row values (commas rightSquare) val (toks text table n i)) → r ≡ parsed e n (arrayItems val (toks text table n i))
+  pub at-items : (val : Reader Value) {r : Parsed} → (s ≡ rightSquare → ⊥) → r ≡ parsed e n (row values (commas rightSquare) val (toks text table n i))
+      → r ≡ parsed e n (arrayItems val (toks text table n i))
   at-items val h p = p ∙ sym (array-items val e n _ (λ z. h (sees ∙ z)))
 
   pub leaf-stands : (m : Leaves) → isLeaf m s ≡ true → i < n
@@ -174,12 +187,14 @@ module _ (text table : List ℕ) (e n i : ℕ) {s : ℕ} (sees : s ≡ lookahead
         pub at-full : {r : Parsed} → b ≡ 0 → r ≡ Fault 10 (placeOf e (toks text table n i)) → r ≡ parsed e n (value m b (toks text table n i))
         at-full z p = p ∙ sym (value-full m e n _ seen (ap opens (sym sees) ∙ o) b z)
 
-        pub at-array : {r : Parsed} → (b ≡ 0 → ⊥) → s ≡ leftSquare → r ≡ parsed e n (arrayItems (value m (b - 1)) (toks text table n (i + 1))) → r ≡ parsed e n (value m b (toks text table n i))
+        pub at-array : {r : Parsed} → (b ≡ 0 → ⊥) → s ≡ leftSquare → r ≡ parsed e n (arrayItems (value m (b - 1)) (toks text table n (i + 1)))
+            → r ≡ parsed e n (value m b (toks text table n i))
         at-array z q p =
             p ∙ ap (λ (ts : List Token). parsed e n (arrayItems (value m (b - 1)) ts)) (sym (toks-rest text table n i))
             ∙ sym (value-array m e n _ seen (ap opens (sym sees) ∙ o) b z (sym sees ∙ q))
 
-        pub at-tuple : {r : Parsed} → (b ≡ 0 → ⊥) → (s ≡ leftSquare → ⊥) → r ≡ parsed e n (tupleItems (value m (b - 1)) (toks text table n (i + 1))) → r ≡ parsed e n (value m b (toks text table n i))
+        pub at-tuple : {r : Parsed} → (b ≡ 0 → ⊥) → (s ≡ leftSquare → ⊥) → r ≡ parsed e n (tupleItems (value m (b - 1)) (toks text table n (i + 1)))
+            → r ≡ parsed e n (value m b (toks text table n i))
         at-tuple z q p =
             p ∙ ap (λ (ts : List Token). parsed e n (tupleItems (value m (b - 1)) ts)) (sym (toks-rest text table n i))
             ∙ sym (value-tuple m e n _ seen (ap opens (sym sees) ∙ o) b z (λ w. q (sees ∙ w)))

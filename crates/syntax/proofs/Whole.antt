@@ -34,7 +34,8 @@ mapped-ends : {A B : Type 0} {x : Parse A} (f : A → B) → Ends x → Ends (ma
 mapped-ends f at-the-end = at-the-end
 mapped-ends f at-a-fault = at-a-fault
 
-onward-ends : {A : Type 0} (a : A) (us : List Token) (k : Reader (List A)) → ((ws : List Token) → Ends (k ws)) → Ends (onward (follow to-the-end us) us (λ ws. mapped (plain .cons a) (k ws)) (λ ws. ok (a ∷ []) ws))
+onward-ends : {A : Type 0} (a : A) (us : List Token) (k : Reader (List A)) → ((ws : List Token) → Ends (k ws))
+    → Ends (onward (follow to-the-end us) us (λ ws. mapped (plain .cons a) (k ws)) (λ ws. ok (a ∷ []) ws))
 unfolding follow
 onward-ends a [] k h = at-the-end
 onward-ends a (t ∷ us) k h = mapped-ends (plain .cons a) (h (t ∷ us))
@@ -138,13 +139,15 @@ module _ {A : Type 0} {f : ℕ → Reader A} {Valid : ℕ → List Token → A �
       let q = above b' (max b b') ts a' (omega arith) v' in
       cc
 
-  at-nine : (b : ℕ) (ts us : List Token) → Stable f b ts (bad 9 us) → (p : List Token) → ts ≡ p ++ us → (b' : ℕ) (ws : List Token) → Alike us ws → ((a : A) × Valid b' (p ++ ws) a) → ⊥
+  at-nine : (b : ℕ) (ts us : List Token) → Stable f b ts (bad 9 us) → (p : List Token) → ts ≡ p ++ us → (b' : ℕ) (ws : List Token) → Alike us ws
+      → ((a : A) × Valid b' (p ++ ws) a) → ⊥
   at-nine b ts us s p d b' ws al v =
       let q = nine-stays p d s (max b b') ws (omega arith) al in
       let r = above b' (max b b') (p ++ ws) (v .0) (omega arith) (v .1) in
       clash cc
 
-  at-ten : (b : ℕ) (ts us : List Token) → Stable f b ts (bad 10 us) → (p : List Token) → ts ≡ p ++ us → (ws : List Token) → Alike us ws → ((a : A) × Valid b (p ++ ws) a) → ⊥
+  at-ten : (b : ℕ) (ts us : List Token) → Stable f b ts (bad 10 us) → (p : List Token) → ts ≡ p ++ us → (ws : List Token) → Alike us ws
+      → ((a : A) × Valid b (p ++ ws) a) → ⊥
   at-ten b ts us s p d ws al v =
       let q = ten-stays p d s ws al in
       let r = w .complete b (p ++ ws) (v .0) (v .1) in
@@ -153,7 +156,8 @@ module _ {A : Type 0} {f : ℕ → Reader A} {Valid : ℕ → List Token → A �
   pub fault : (b c : ℕ) (ts us : List Token) → f b ts ≡ bad c us → FirstFault (λ b ts. (a : A) × Valid b ts a) b c ts us
   fault b c ts us e = go (rw e at (w .right b ts)) (rw e at (w .stable b ts))
     where
-      go : {c : ℕ} {us : List Token} → Right (λ b ts a us. us ≡ [] → Valid b ts a) b ts (bad c us) → Stable f b ts (bad c us) → FirstFault (λ b ts. (a : A) × Valid b ts a) b c ts us
+      go : {c : ℕ} {us : List Token} → Right (λ b ts a us. us ≡ [] → Valid b ts a) b ts (bad c us) → Stable f b ts (bad c us)
+          → FirstFault (λ b ts. (a : A) × Valid b ts a) b c ts us
       go (nine p d q) s =
           record {
             before = p;
@@ -184,7 +188,9 @@ module _ {A : Type 0} {f : ℕ → Reader A} {Valid : ℕ → List Token → A �
       go (ten {t} {us} p d q q') k = (t, (us, refl))
 
   -- the codes of two first faults at one place agree
-  same-code : (b c c' : ℕ) (ts us us' : List Token) (h : FirstFault (λ b ts. (a : A) × Valid b ts a) b c ts us) (k : FirstFault (λ b ts. (a : A) × Valid b ts a) b c' ts us') → h .before ≡ k .before → us ≡ us' → c' ≡ c
+  same-code : (b c c' : ℕ) (ts us us' : List Token) (h : FirstFault (λ b ts. (a : A) × Valid b ts a) b c ts us)
+      (k : FirstFault (λ b ts. (a : A) × Valid b ts a) b c' ts us')
+      → h .before ≡ k .before → us ≡ us' → c' ≡ c
   same-code b c c' ts us us' h k p q = go (h .code) (k .code)
     where
       go : (c ≡ 9) ⊎ (c ≡ 10) → (c' ≡ 9) ⊎ (c' ≡ 10) → c' ≡ c
@@ -200,10 +206,13 @@ module _ {A : Type 0} {f : ℕ → Reader A} {Valid : ℕ → List Token → A �
       past : (t : Token) (p q vs : List Token) → p ++ (t ∷ (q ++ vs)) ≡ (p ++ (t ∷ q)) ++ vs
       past t p q vs = sym (append-assoc p (t ∷ q) vs)
 
-      at : (c' : ℕ) (ws : List Token) (k : FirstFault (λ b ts. (a : A) × Valid b ts a) b c' ts ws) → Splits (h .before) us (k .before) ws → _≡_ {A = Parse A} (bad c' ws) (bad c us)
+      at : (c' : ℕ) (ws : List Token) (k : FirstFault (λ b ts. (a : A) × Valid b ts a) b c' ts ws) → Splits (h .before) us (k .before) ws
+          → _≡_ {A = Parse A} (bad c' ws) (bad c us)
       at c' ws k (same-place p e) = rw (same-code b c c' ts us ws h k p e, e)
-      at c' ws k (goes-on t q p e) = absurd (h .first (t ∷ (q ++ k .viable .0)) (rw e both-begin) (rw (past t (h .before) q (k .viable .0), ← p) (k .viable .1)))
-      at c' ws k (ends-before t q p e) = absurd (k .first (t ∷ (q ++ h .viable .0)) (rw e both-begin) (rw (past t (k .before) q (h .viable .0), ← p) (h .viable .1)))
+      at c' ws k (goes-on t q p e) =
+          absurd (h .first (t ∷ (q ++ k .viable .0)) (rw e both-begin) (rw (past t (h .before) q (k .viable .0), ← p) (k .viable .1)))
+      at c' ws k (ends-before t q p e) =
+          absurd (k .first (t ∷ (q ++ h .viable .0)) (rw e both-begin) (rw (past t (k .before) q (h .viable .0), ← p) (h .viable .1)))
 
       go : (x : Parse A) → f b ts ≡ x → x ≡ bad c us
       go (ok a ws) e =

@@ -9,7 +9,8 @@ use mathlib.Core.Option.{Option, some}
 use mathlib.Core.Option.{none as nothing}
 use Prim.Native.Nat.{ℕ, suc}
 use Rattle.lexis.specs.Lexer.{Token}
-use Rattle.lexis.specs.Symbol.{symOf, isLiteral, leftRound, rightRound, leftSquare, rightSquare, leftCurly, rightCurly, colon, equal, comma, semicolon, arrow, aName, aNumber, version, graph, fragment, tensorWord, extentWord, scalarWord, logicalWord, stringWord}
+use Rattle.lexis.specs.Symbol.{symOf, isLiteral, leftRound, rightRound, leftSquare, rightSquare, leftCurly, rightCurly, colon, equal, comma, semicolon, arrow}
+use Rattle.lexis.specs.Symbol.{aName, aNumber, version, graph, fragment, tensorWord, extentWord, scalarWord, logicalWord, stringWord}
 use Rattle.syntax.specs.Tree.{Value, Values, Ty, Tys, Param, Result, Header, Arg, Call, Document}
 use Rattle.syntax.specs.Tree.Value.{name, literal, array, tuple}
 use Rattle.syntax.specs.Tree.Values.{none, more}
@@ -22,7 +23,8 @@ use Rattle.syntax.specs.Tree.Arg.{positional, named}
 -- <item> ("," <item>)* and the closing terminal: never empty
 pub data Separated {A : Type 0} (Item : List Token → A → List Token → Type 0) (close : ℕ) : List Token → List A → List Token → Type 0 where
   last : {c : Token} {ts us : List Token} {a : A} → Item ts a (c ∷ us) → symOf c ≡ close → Separated Item close ts (a ∷ []) us
-  next : {c : Token} {ts us ws : List Token} {a : A} {xs : List A} → Item ts a (c ∷ us) → symOf c ≡ comma → Separated Item close us xs ws → Separated Item close ts (a ∷ xs) ws
+  next : {c : Token} {ts us ws : List Token} {a : A} {xs : List A} → Item ts a (c ∷ us) → symOf c ≡ comma → Separated Item close us xs ws
+      → Separated Item close ts (a ∷ xs) ws
 
 -- ---- values
 
@@ -48,7 +50,8 @@ mutual
     a-name : {b : ℕ} {t : Token} {ts : List Token} → takesNames m ≡ true → symOf t ≡ aName → Spells m b (t ∷ ts) (name t) ts
     a-literal : {b : ℕ} {t : Token} {ts : List Token} → takesLiterals m ≡ true → isLiteral (symOf t) ≡ true → Spells m b (t ∷ ts) (literal t) ts
     an-empty-array : {b : ℕ} {o c : Token} {ts : List Token} → symOf o ≡ leftSquare → symOf c ≡ rightSquare → Spells m (suc b) (o ∷ c ∷ ts) (array o none) ts
-    an-array : {b : ℕ} {o : Token} {ts us : List Token} {vs : Values} → symOf o ≡ leftSquare → Items m rightSquare b ts vs us → Spells m (suc b) (o ∷ ts) (array o vs) us
+    an-array : {b : ℕ} {o : Token} {ts us : List Token} {vs : Values} → symOf o ≡ leftSquare → Items m rightSquare b ts vs us
+        → Spells m (suc b) (o ∷ ts) (array o vs) us
     a-tuple : {b : ℕ} {o c : Token} {ts us ws : List Token} {v : Value} {vs : Values}
         → symOf o ≡ leftRound → Spells m b ts v (c ∷ us) → symOf c ≡ comma → Items m rightRound b us vs ws → Spells m (suc b) (o ∷ ts) (tuple o (more v vs)) ws
 
@@ -71,19 +74,22 @@ pub data IsTypeName : ℕ → Ty → Type 0 where
 -- <array-type-spec>: pairs of square brackets, which may stand apart, make the type u of the type w
 pub data Dims : ℕ → List Token → Ty → Ty → List Token → Type 0 where
   no-pair : {b : ℕ} {ts : List Token} {u : Ty} → Dims b ts u u ts
-  a-pair : {b : ℕ} {o c : Token} {ts us : List Token} {w u : Ty} → symOf o ≡ leftSquare → symOf c ≡ rightSquare → Dims (suc b) ts (arrayOf w) u us → Dims (suc b) (o ∷ c ∷ ts) w u us
+  a-pair : {b : ℕ} {o c : Token} {ts us : List Token} {w u : Ty} → symOf o ≡ leftSquare → symOf c ≡ rightSquare → Dims (suc b) ts (arrayOf w) u us
+      → Dims (suc b) (o ∷ c ∷ ts) w u us
 
 -- <type-spec>, <tuple-type-spec>: a type's name or a tuple of at least two types, and its pairs of square brackets
 mutual
   pub data IsType : ℕ → List Token → Ty → List Token → Type 0 where
     a-plain : {b : ℕ} {t : Token} {ts us : List Token} {w u : Ty} → IsTypeName (symOf t) w → Dims b ts w u us → IsType b (t ∷ ts) u us
     a-tuple-type : {b : ℕ} {o c : Token} {ts us ws xs : List Token} {w u : Ty} {vs : Tys}
-        → symOf o ≡ leftRound → IsType b ts w (c ∷ us) → symOf c ≡ comma → IsTypes b us vs ws → Dims (suc b) ws (tupleOf (a-type w vs)) u xs → IsType (suc b) (o ∷ ts) u xs
+        → symOf o ≡ leftRound → IsType b ts w (c ∷ us) → symOf c ≡ comma → IsTypes b us vs ws → Dims (suc b) ws (tupleOf (a-type w vs)) u xs
+        → IsType (suc b) (o ∷ ts) u xs
 
   -- types parted by commas, and the closing bracket
   pub data IsTypes : ℕ → List Token → Tys → List Token → Type 0 where
     last-type : {b : ℕ} {c : Token} {ts us : List Token} {u : Ty} → IsType b ts u (c ∷ us) → symOf c ≡ rightRound → IsTypes b ts (a-type u no-type) us
-    next-type : {b : ℕ} {c : Token} {ts us ws : List Token} {u : Ty} {vs : Tys} → IsType b ts u (c ∷ us) → symOf c ≡ comma → IsTypes b us vs ws → IsTypes b ts (a-type u vs) ws
+    next-type : {b : ℕ} {c : Token} {ts us ws : List Token} {u : Ty} {vs : Tys} → IsType b ts u (c ∷ us) → symOf c ≡ comma → IsTypes b us vs ws
+        → IsTypes b ts (a-type u vs) ws
 
 -- ---- operation lists
 
@@ -99,7 +105,8 @@ pub data IsParam (b : ℕ) : List Token → Param → List Token → Type 0 wher
 
 -- <result> ::= <identifier> ":" <type-spec>
 pub data IsResult (b : ℕ) : List Token → Result → List Token → Type 0 where
-  a-result : {n c : Token} {ts us : List Token} {u : Ty} → symOf n ≡ aName → symOf c ≡ colon → IsType b ts u us → IsResult b (n ∷ c ∷ ts) (record { name = n; ty = u }) us
+  a-result : {n c : Token} {ts us : List Token} {u : Ty} → symOf n ≡ aName → symOf c ≡ colon → IsType b ts u us
+      → IsResult b (n ∷ c ∷ ts) (record { name = n; ty = u }) us
 
 -- <operation-declaration> ::= "fragment" <identifier> "(" <parameter-list> ")" "->" "(" <result-list> ")"
 pub data IsHeader (b : ℕ) : List Token → Header → List Token → Type 0 where

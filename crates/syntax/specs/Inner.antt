@@ -7,7 +7,8 @@ use Rattle.lexis.specs.Sizes.{maxBrackets}
 use Rattle.lexis.specs.Ascii.{ascii}
 use Rattle.lexis.specs.Words.{sameBytes}
 use Rattle.lexis.specs.Lexer.{Token}
-use Rattle.lexis.specs.Symbol.{symOf, isLiteral, leftRound, rightRound, leftSquare, leftCurly, rightCurly, equal, semicolon, arrow, aName, aNumber, version, graph, tensorWord, extentWord, scalarWord, logicalWord, stringWord}
+use Rattle.lexis.specs.Symbol.{symOf, isLiteral, leftRound, rightRound, leftSquare, leftCurly, rightCurly, equal, semicolon, arrow, aName, aNumber, version}
+use Rattle.lexis.specs.Symbol.{graph, tensorWord, extentWord, scalarWord, logicalWord, stringWord}
 use Rattle.syntax.specs.Tree.{Ty, Param, Result, Arg, Call}
 use Rattle.syntax.specs.Grammar.{Leaves, names, literals, both, takesNames, takesLiterals}
 use Rattle.syntax.specs.Parser.{Reader, then, expect, begins, rest, plain, commas, closed, row, tupleTypes, baseStep, type, param, result, argument, call}

@@ -55,7 +55,8 @@ fn call(text: &[u8], table: &[u32], n: usize, at: usize) -> Parsed
 // Calls, at least one, and the closing bracket.
 fn body(text: &[u8], table: &[u32], n: usize, at: usize) -> Parsed
     requires { ⌜ Holds (now text) (now table) n ⌝ }
-    ensures { λ r. ⌜ r ≡ parsed (length (now (text .entry))) n (row plain (closed rightCurly) (call maxBrackets) (toks (now (text .entry)) (now (table .entry)) n at)) ⌝ }
+    ensures { λ r. ⌜ r ≡ parsed (length (now (text .entry))) n
+        (row plain (closed rightCurly) (call maxBrackets) (toks (now (text .entry)) (now (table .entry)) n at)) ⌝ }
 {
     let mut i = at;
     loop {

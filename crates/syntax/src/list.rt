@@ -4,7 +4,7 @@ use crate::symbol::expect;
 use crate::symbol::symbol_at;
 use crate::types::type_at;
 use crate::value::Leaves;
-use crate::value::value;
+use crate::value::item_at;
 use lexis::limits::Limits;
 use lexis::symbol::Symbol;
 ghost use mathlib.Core.Path.{_≡_};
@@ -33,7 +33,7 @@ fn default(text: &[u8], table: &[u32], n: usize, at: usize) -> Parsed
     if symbol_at(text, table, n, at) != Symbol::EQUAL {
         return Parsed::Done(at);
     }
-    value(text, table, n, at + 1, Leaves::Literals, Limits::BRACKETS)
+    item_at(text, table, n, at + 1, Leaves::Literals, Limits::BRACKETS)
 }
 
 // A name, a colon and a type.
@@ -78,9 +78,9 @@ fn argument(text: &[u8], table: &[u32], n: usize, at: usize) -> Parsed
     ensures { λ r. ⌜ r ≡ parsed (length (now (text .entry))) n (argument maxBrackets (toks (now (text .entry)) (now (table .entry)) n at)) ⌝ }
 {
     if is_label(text, table, n, at) {
-        return value(text, table, n, at + 2, Leaves::Both, Limits::BRACKETS);
+        return item_at(text, table, n, at + 2, Leaves::Both, Limits::BRACKETS);
     }
-    value(text, table, n, at, Leaves::Both, Limits::BRACKETS)
+    item_at(text, table, n, at, Leaves::Both, Limits::BRACKETS)
 }
 
 // One item of a list.
@@ -97,9 +97,10 @@ pub fn one(text: &[u8], table: &[u32], n: usize, at: usize, which: Item) -> Pars
 }
 
 // Items parted by commas, at least one, and the closing bracket.
-fn list(text: &[u8], table: &[u32], n: usize, at: usize, which: Item) -> Parsed
+pub fn list(text: &[u8], table: &[u32], n: usize, at: usize, which: Item) -> Parsed
     requires { ⌜ Holds (now text) (now table) n ⌝ }
-    ensures { λ r. ⌜ r ≡ parsed (length (now (text .entry))) n (row plain (commas rightRound) (reader which) (toks (now (text .entry)) (now (table .entry)) n at)) ⌝ }
+    ensures { λ r. ⌜ r ≡ parsed (length (now (text .entry))) n
+        (row plain (commas rightRound) (reader which) (toks (now (text .entry)) (now (table .entry)) n at)) ⌝ }
 {
     let mut i = at;
     loop {
@@ -118,7 +119,9 @@ impl Parsed {
     // And then a list.
     pub(crate) fn then_list(self, text: &[u8], table: &[u32], n: usize, which: Item) -> Parsed
         requires { ⌜ Holds (now text) (now table) n ⌝ }
-        ensures { λ r. ⌜ r ≡ onwards self (λ j. parsed (length (now (text .entry))) n (row plain (commas rightRound) (reader which) (toks (now (text .entry)) (now (table .entry)) n j))) ⌝ }
+        ensures { λ r. ⌜ r ≡ onwards self
+            (λ j. parsed (length (now (text .entry))) n (row plain (commas rightRound) (reader which) (toks (now (text .entry)) (now (table .entry)) n j)))
+            ⌝ }
     {
         match self {
             Parsed::Done(at) => list(text, table, n, at, which),

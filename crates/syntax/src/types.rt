@@ -100,7 +100,8 @@ fn tuple_type(text: &[u8], table: &[u32], n: usize, at: usize, room: usize) -> P
 // Types parted by commas, at least one, and the closing bracket.
 fn type_items(text: &[u8], table: &[u32], n: usize, at: usize, room: usize) -> Parsed
     requires { ⌜ Holds (now text) (now table) n ⌝ }
-    ensures { λ r. ⌜ r ≡ parsed (length (now (text .entry))) n (row types (commas rightRound) (type room) (toks (now (text .entry)) (now (table .entry)) n at)) ⌝ }
+    ensures { λ r. ⌜ r ≡ parsed (length (now (text .entry))) n (row types (commas rightRound) (type room) (toks (now (text .entry)) (now (table .entry)) n at))
+        ⌝ }
 {
     let mut i = at;
     loop {

@@ -86,10 +86,29 @@ pub fn value(text: &[u8], table: &[u32], n: usize, at: usize, leaves: Leaves, ro
     tuple(text, table, n, at + 1, leaves, room - 1)
 }
 
+// A value that is a leaf more often than not: a leaf is told at once, and not by a call of the readers that call each other.
+pub(crate) fn item_at(
+    text: &[u8],
+    table: &[u32],
+    n: usize,
+    at: usize,
+    leaves: Leaves,
+    room: usize,
+) -> Parsed
+    requires { ⌜ Holds (now text) (now table) n ⌝ }
+    ensures { λ r. ⌜ r ≡ parsed (length (now (text .entry))) n (value (leavesOf leaves) room (toks (now (text .entry)) (now (table .entry)) n at)) ⌝ }
+{
+    if is_leaf(leaves, symbol_at(text, table, n, at)) {
+        return Parsed::Done(at + 1);
+    }
+    value(text, table, n, at, leaves, room)
+}
+
 // The items of an array, after its bracket: none, or a row.
 fn array(text: &[u8], table: &[u32], n: usize, at: usize, leaves: Leaves, room: usize) -> Parsed
     requires { ⌜ Holds (now text) (now table) n ⌝ }
-    ensures { λ r. ⌜ r ≡ parsed (length (now (text .entry))) n (arrayItems (value (leavesOf leaves) room) (toks (now (text .entry)) (now (table .entry)) n at)) ⌝ }
+    ensures { λ r. ⌜ r ≡ parsed (length (now (text .entry))) n (arrayItems (value (leavesOf leaves) room) (toks (now (text .entry)) (now (table .entry)) n at))
+        ⌝ }
 {
     if symbol_at(text, table, n, at) == Symbol::RIGHT_SQUARE {
         return Parsed::Done(at + 1);
@@ -100,7 +119,8 @@ fn array(text: &[u8], table: &[u32], n: usize, at: usize, leaves: Leaves, room: 
 // The items of a tuple, after its bracket: at least two.
 fn tuple(text: &[u8], table: &[u32], n: usize, at: usize, leaves: Leaves, room: usize) -> Parsed
     requires { ⌜ Holds (now text) (now table) n ⌝ }
-    ensures { λ r. ⌜ r ≡ parsed (length (now (text .entry))) n (tupleItems (value (leavesOf leaves) room) (toks (now (text .entry)) (now (table .entry)) n at)) ⌝ }
+    ensures { λ r. ⌜ r ≡ parsed (length (now (text .entry))) n (tupleItems (value (leavesOf leaves) room) (toks (now (text .entry)) (now (table .entry)) n at))
+        ⌝ }
 {
     let first = value(text, table, n, at, leaves, room).then_expect(text, table, n, Symbol::COMMA);
     let Parsed::Done(next) = first else {
@@ -121,11 +141,12 @@ pub(crate) fn items(
 ) -> Parsed
     requires { ⌜ Holds (now text) (now table) n ⌝ }
     requires { ⌜ close < theEnd ⌝ }
-    ensures { λ r. ⌜ r ≡ parsed (length (now (text .entry))) n (row values (commas close) (value (leavesOf leaves) room) (toks (now (text .entry)) (now (table .entry)) n at)) ⌝ }
+    ensures { λ r. ⌜ r ≡ parsed (length (now (text .entry))) n
+        (row values (commas close) (value (leavesOf leaves) room) (toks (now (text .entry)) (now (table .entry)) n at)) ⌝ }
 {
     let mut i = at;
     loop {
-        let item = value(text, table, n, i, leaves, room);
+        let item = item_at(text, table, n, i, leaves, room);
         let Parsed::Done(next) = item else {
             return item;
         };

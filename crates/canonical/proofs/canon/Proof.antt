@@ -17,7 +17,8 @@ no-text-requires c κs = search needs
 returns : tie.Need-returns
 returns c =
     let s = c .before .before .before .before .before .before .before .before in
-    refused-room (s .args .list .now) (s .args .doc .now) (s .args .work1 .now) (s .args .work2 .now) (s .args .out .now) (sym (c .before .before .rooms-serve .ensures) ∙ not-true _ (c .before .if1 .taken)) (c .no-text .ensures)
+    refused-room (s .args .list .now) (s .args .doc .now) (s .args .work1 .now) (s .args .work2 .now) (s .args .out .now)
+    (sym (c .before .before .rooms-serve .ensures) ∙ not-true _ (c .before .if1 .taken)) (c .no-text .ensures)
 
 text-fits-requires : tie.Need-text-fits-requires
 text-fits-requires c κs = search needs
@@ -28,7 +29,9 @@ long-text-requires c κs = search needs
 returns-2 : tie.Need-returns-2
 returns-2 c =
     let s = c .before .before .before .before .before .before .before .before .before .before in
-    refused-list (s .args .list .now) (s .args .doc .now) (s .args .work1 .now) (s .args .work2 .now) (s .args .out .now) (sym (c .before .before .before .before .rooms-serve .ensures) ∙ not-false _ (c .before .before .before .if1 .left)) (sym (c .before .before .text-fits .ensures) ∙ not-true _ (c .before .if2 .taken)) (c .long-text .ensures)
+    refused-list (s .args .list .now) (s .args .doc .now) (s .args .work1 .now) (s .args .work2 .now) (s .args .out .now)
+    (sym (c .before .before .before .before .rooms-serve .ensures) ∙ not-false _ (c .before .before .before .if1 .left))
+    (sym (c .before .before .text-fits .ensures) ∙ not-true _ (c .before .if2 .taken)) (c .long-text .ensures)
 
 text-fits-requires-2 : tie.Need-text-fits-requires-2
 text-fits-requires-2 c κs = search needs
@@ -39,13 +42,26 @@ long-text-requires-2 c κs = search needs
 returns-3 : tie.Need-returns-3
 returns-3 c =
     let s = c .before .before .before .before .before .before .before .before .before .before .before .before in
-    refused-document (s .args .list .now) (s .args .doc .now) (s .args .work1 .now) (s .args .work2 .now) (s .args .out .now) (sym (c .before .before .before .before .before .before .rooms-serve .ensures) ∙ not-false _ (c .before .before .before .before .before .if1 .left)) (sym (c .before .before .before .before .text-fits .ensures) ∙ not-false _ (c .before .before .before .if2 .left)) (sym (c .before .before .text-fits2 .ensures) ∙ not-true _ (c .before .if3 .taken)) (c .long-text2 .ensures)
+    refused-document (s .args .list .now) (s .args .doc .now) (s .args .work1 .now) (s .args .work2 .now) (s .args .out .now)
+    (sym (c .before .before .before .before .before .before .rooms-serve .ensures) ∙ not-false _ (c .before .before .before .before .before .if1 .left))
+    (sym (c .before .before .before .before .text-fits .ensures) ∙ not-false _ (c .before .before .before .if2 .left))
+    (sym (c .before .before .text-fits2 .ensures) ∙ not-true _ (c .before .if3 .taken)) (c .long-text2 .ensures)
 
 text-stages-requires : tie.Need-text-stages-requires
 text-stages-requires c κs =
     let s = c .before .before .before .before .before .before .before .before .before .before .before .before .before .before in
-    let r = room-parts (s .args .list .now) (s .args .doc .now) (s .args .work1 .now) (s .args .work2 .now) (s .args .out .now) (sym (c .before .before .before .before .before .before .before .before .rooms-serve .ensures) ∙ not-false _ (c .before .before .before .before .before .before .before .if1 .left)) in
-    ((leb-true (length (s .args .list .now)) maxText (sym (c .before .before .before .before .before .before .text-fits .ensures) ∙ not-false _ (c .before .before .before .before .before .if2 .left)), leb-true (length (s .args .doc .now)) maxText (sym (c .before .before .before .before .text-fits2 .ensures) ∙ not-false _ (c .before .before .before .if3 .left))), r)
+    let r = room-parts (s .args .list .now) (s .args .doc .now) (s .args .work1 .now) (s .args .work2 .now) (s .args .out .now)
+    (sym (c .before .before .before .before .before .before .before .before .rooms-serve .ensures)
+    ∙ not-false _ (c .before .before .before .before .before .before .before .if1 .left))
+    in (
+      (
+        leb-true (length (s .args .list .now)) maxText
+            (sym (c .before .before .before .before .before .before .text-fits .ensures) ∙ not-false _ (c .before .before .before .before .before .if2 .left)),
+        leb-true (length (s .args .doc .now)) maxText
+            (sym (c .before .before .before .before .text-fits2 .ensures) ∙ not-false _ (c .before .before .before .if3 .left)),
+      ),
+      r,
+    )
 
 clear-requires : tie.Need-clear-requires
 clear-requires c κs = search needs
@@ -66,7 +82,20 @@ returns-4 : tie.Need-returns-4
 returns-4 c =
     let s = c .before .before .before .before .before .before .before .before .before .before .before .before .before .before .before .before .before .before .before .before .before .before .before .before .before .before .before .before .before in
     let e = c .before .before .before .before .before .before .before .before .before .before .before .before .before .before .text-stages .ensures in
-    ended (s .args .list .now) (s .args .doc .now) (s .args .work1 .now) (s .args .work2 .now) (s .args .out .now) (sym (c .before .before .before .before .before .before .before .before .before .before .before .before .before .before .before .before .before .before .before .before .before .before .before .rooms-serve .ensures) ∙ not-false _ (c .before .before .before .before .before .before .before .before .before .before .before .before .before .before .before .before .before .before .before .before .before .before .if1 .left)) (sym (c .before .before .before .before .before .before .before .before .before .before .before .before .before .before .before .before .before .before .before .before .before .text-fits .ensures) ∙ not-false _ (c .before .before .before .before .before .before .before .before .before .before .before .before .before .before .before .before .before .before .before .before .if2 .left)) (sym (c .before .before .before .before .before .before .before .before .before .before .before .before .before .before .before .before .before .before .before .text-fits2 .ensures) ∙ not-false _ (c .before .before .before .before .before .before .before .before .before .before .before .before .before .before .before .before .before .before .if3 .left)) (e .0) (c .before .before .before .before .before .before .clear .ensures) (e .1 .0) (c .before .before .clear2 .ensures) (e .1 .1)
+    ended (s .args .list .now) (s .args .doc .now) (s .args .work1 .now) (s .args .work2 .now) (s .args .out .now)
+    (sym
+    (c .before .before .before .before .before .before .before .before .before .before .before .before .before .before .before .before .before .before .before .before .before .before .before .rooms-serve .ensures)
+    ∙ not-false _
+    (c .before .before .before .before .before .before .before .before .before .before .before .before .before .before .before .before .before .before .before .before .before .before .if1 .left))
+    (sym
+    (c .before .before .before .before .before .before .before .before .before .before .before .before .before .before .before .before .before .before .before .before .before .text-fits .ensures)
+    ∙ not-false _
+    (c .before .before .before .before .before .before .before .before .before .before .before .before .before .before .before .before .before .before .before .before .if2 .left))
+    (sym
+    (c .before .before .before .before .before .before .before .before .before .before .before .before .before .before .before .before .before .before .before .text-fits2 .ensures)
+    ∙ not-false _
+    (c .before .before .before .before .before .before .before .before .before .before .before .before .before .before .before .before .before .before .if3 .left))
+    (e .0) (c .before .before .before .before .before .before .clear .ensures) (e .1 .0) (c .before .before .clear2 .ensures) (e .1 .1)
 
 pub canon-spec : {M : Type 1} → statement M
 canon-spec =

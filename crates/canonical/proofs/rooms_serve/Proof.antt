@@ -12,13 +12,19 @@ work-serves-requires : tie.Need-work-serves-requires
 work-serves-requires c κs = search needs
 
 returns : tie.Need-returns
-returns c = let s = c .before .before in sym (ap (λ (x : Bool). x && leb workWords (s .args .work2)) (sym (c .before .work-serves .ensures) ∙ not-true _ (c .if1 .taken)))
+returns c =
+    let s = c .before .before in
+    sym (ap (λ (x : Bool). x && leb workWords (s .args .work2)) (sym (c .before .work-serves .ensures) ∙ not-true _ (c .if1 .taken)))
 
 work-serves-requires-2 : tie.Need-work-serves-requires-2
 work-serves-requires-2 c κs = search needs
 
 returns-2 : tie.Need-returns-2
-returns-2 c = let s = c .before .before .before in sym (ap (λ (x : Bool). x && leb workWords (s .args .work2)) (sym (c .before .before .work-serves .ensures) ∙ not-false _ (c .before .if1 .left)) ∙ sym (c .work-serves2 .ensures))
+returns-2 c =
+    let s = c .before .before .before in
+    sym
+    (ap (λ (x : Bool). x && leb workWords (s .args .work2)) (sym (c .before .before .work-serves .ensures) ∙ not-false _ (c .before .if1 .left))
+    ∙ sym (c .work-serves2 .ensures))
 
 pub rooms-serve-spec : {M : Type 1} → statement M
 rooms-serve-spec = tie.close (tie.spec work-serves-requires returns work-serves-requires-2 returns-2)

@@ -1,7 +1,7 @@
 -- All stages of both texts, then the text is written where they pass.
 use mathlib.Core.Path.{refl}
-use native.Mathlib.Omega.{arith}
 use lib.ListN.{length}
+use Rattle.lists.proofs.ListStages.{served-zeros}
 use Rattle.documents.proofs.BothStages.{both-passed, both-stopped}
 use Rattle.canonical.proofs.CanonStages.{wrote-stopped, text-stopped}
 use borrow.Author.Needs.{needs}
@@ -11,17 +11,25 @@ use Rattle.canonical.proofs.text_stages.Tie as tie
 slice-aggregate-both-stages : tie.Need-slice-aggregate-both-stages
 slice-aggregate-both-stages c = search needs
 
+slice-aggregate-both-stages-2 : tie.Need-slice-aggregate-both-stages-2
+slice-aggregate-both-stages-2 c = search needs
+
+slice-aggregate-both-stages-3 : tie.Need-slice-aggregate-both-stages-3
+slice-aggregate-both-stages-3 c = search needs
+
 both-stages-requires : tie.Need-both-stages-requires
-both-stages-requires c κs = let p = c .before .before .before .before .before .before .before .before .pre in (p .0, (p .1 .0, (p .1 .1, search needs)))
+both-stages-requires c κs =
+    let p = c .before .before .before .before .before .before .before .before .before .before .pre in
+    (p .0, ((p .1 .0, (p .1 .1, search needs)), served-zeros 13312 3840 _ refl refl))
 
-enum-known-n : tie.Need-enum-known-n
-enum-known-n c = search needs
-
-slice-aggregate-write : tie.Need-slice-aggregate-write
-slice-aggregate-write c = search needs
+enum-known-s : tie.Need-enum-known-s
+enum-known-s c = search needs
 
 write-requires : tie.Need-write-requires
-write-requires c κs = (both-passed (c .before .before .before .before .before .before .before .before .before .before .before .before .both-stages .ensures .0) (c .before .before .before .before .before .n .given .1), search needs)
+write-requires c κs =
+    let told = c .before .before .before .before in
+    let staged = told .before .before .before .before .before .before .before .before .before in
+    record { index = _; words = _; both = both-passed (staged .both-stages .ensures .0) (told .s .given .1) .passed }
 
 enum-known-r : tie.Need-enum-known-r
 enum-known-r c = search needs
@@ -36,7 +44,10 @@ same-length-3 : tie.Need-same-length-3
 same-length-3 c = search needs
 
 returns : tie.Need-returns
-returns c = let e = c .before .before .before .before .before .before .before .before .before .before .before .before .before .before .before .both-stages .ensures in (c .before .before .write .ensures, e .1)
+returns c =
+    let written = c .before .before in
+    let staged = written .before .before .before .before .before .before .before .before .before .before .before .before .before .before in
+    (written .write .ensures, staged .both-stages .ensures .1)
 
 same-length-4 : tie.Need-same-length-4
 same-length-4 c = search needs
@@ -46,19 +57,22 @@ same-length-5 c = search needs
 
 returns-2 : tie.Need-returns-2
 returns-2 c =
-    let s = c .before .before .before .before .before .before .before .before .before .before .before .before .before .before .before .before .before in
-    let x = c .before .before .before .before .before .before .before .before .both-stages in
-    let t = both-stopped (s .args .list .now) (s .args .doc .now) _ _ _ (x .result) (x .ensures .0) (c .before .r .given .1) in
-    (wrote-stopped (text-stopped (s .args .list .now) (s .args .doc .now) (length (s .args .out .now)) t) refl refl, x .ensures .1)
+    let told = c .before in
+    let staged = told .before .before .before .before .before .before .before .before .before in
+    let a = staged .before .before .before .before .before .before .before .before .before .before .before .args in
+    let x = staged .both-stages in
+    let t = both-stopped (a .list .now) (a .doc .now) _ _ _ _ _ (x .result) (x .ensures .0) (told .r .given .1) in
+    (wrote-stopped (text-stopped (a .list .now) (a .doc .now) (length (a .out .now)) t) refl refl, x .ensures .1)
 
 pub text-stages-spec : {M : Type 1} → statement M
 text-stages-spec =
     tie.close
     (tie.spec
     slice-aggregate-both-stages
+    slice-aggregate-both-stages-2
+    slice-aggregate-both-stages-3
     both-stages-requires
-    enum-known-n
-    slice-aggregate-write
+    enum-known-s
     write-requires
     enum-known-r
     same-length

@@ -15,6 +15,9 @@ use Rattle.syntax.proofs.read.Reads as read-reads
 text-fits-requires : tie.Need-text-fits-requires
 text-fits-requires c κs = search needs
 
+cast-t12 : tie.Need-cast-t12
+cast-t12 c = search needs
+
 print-answer-requires : tie.Need-print-answer-requires
 print-answer-requires c κs = search needs
 
@@ -51,6 +54,7 @@ syntax-case-spec =
     tie.close
     (tie.spec
     text-fits-requires
+    cast-t12
     print-answer-requires
     returns
     slice-aggregate-read

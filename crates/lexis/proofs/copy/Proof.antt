@@ -30,7 +30,14 @@ mul-to-2 : tie.Need-mul-to-2 Inv-loop μ-loop
 mul-to-2 c = search needs
 
 slice-write-to : tie.Need-slice-write-to Inv-loop μ-loop
-slice-write-to c = let l = c .before .before .loop .inv .1 in omega (arith, ap length l, length-paste (c .before .before .before .args .to .now) 0 (c .before .before .before .args .from .now) (c .before .before .loop .i) (omega arith) (omega arith))
+slice-write-to c =
+    let l = c .before .before .loop .inv .1 in
+    omega (
+      arith,
+      ap length l,
+      length-paste (c .before .before .before .args .to .now) 0 (c .before .before .before .args .from .now) (c .before .before .loop .i) (omega arith)
+          (omega arith),
+    )
 
 add-i : tie.Need-add-i Inv-loop μ-loop
 add-i c = search needs
@@ -41,14 +48,22 @@ loop-less c = search needs
 loop-again : tie.Need-loop-again Inv-loop μ-loop
 loop-again c = let i = c .before .before .loop .i in
     let to₀ = c .before .before .before .args .to .now in
-    let from = c .before .before .before .args .from .now in
-    (omega arith, ap (λ (l : List ℕ). set l i (getD from i 0)) (c .before .before .loop .inv .1) ∙ ap (λ (k : ℕ). set (paste to₀ 0 from i) k (getD from i 0)) (sym (zero-add i)) ∙ paste-suc to₀ 0 from i 0 (omega arith) (omega arith) ∙ ap (paste to₀ 0 from) (sym (add-one i)))
+    let from = c .before .before .before .args .from .now in (
+      omega arith,
+      ap (λ (l : List ℕ). set l i (getD from i 0)) (c .before .before .loop .inv .1)
+          ∙ ap (λ (k : ℕ). set (paste to₀ 0 from i) k (getD from i 0)) (sym (zero-add i)) ∙ paste-suc to₀ 0 from i 0 (omega arith) (omega arith)
+          ∙ ap (paste to₀ 0 from) (sym (add-one i)),
+    )
 
 same-length : tie.Need-same-length Inv-loop μ-loop
-same-length c = ap length (c .before .loop .inv .1) ∙ length-paste (c .before .before .args .to .now) 0 (c .before .before .args .from .now) (c .before .loop .i) (omega arith) (omega arith)
+same-length c =
+    ap length (c .before .loop .inv .1)
+    ∙ length-paste (c .before .before .args .to .now) 0 (c .before .before .args .from .now) (c .before .loop .i) (omega arith) (omega arith)
 
 returns : tie.Need-returns Inv-loop μ-loop
-returns c = let e : c .before .loop .i ≡ c .before .before .args .n = omega arith in c .before .loop .inv .1 ∙ ap (paste (c .before .before .args .to .now) 0 (c .before .before .args .from .now)) e
+returns c =
+    let e : c .before .loop .i ≡ c .before .before .args .n = omega arith in
+    c .before .loop .inv .1 ∙ ap (paste (c .before .before .args .to .now) 0 (c .before .before .args .from .now)) e
 
 pub copy-spec : {M : Type 1} → statement M
 copy-spec =

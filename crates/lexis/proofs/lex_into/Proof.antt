@@ -123,7 +123,8 @@ loop-again-2 c =
     let start = at-loop .before .before .before .before in
     let s = told (start .args .text .now) (at-loop .loop .c) _ _ (at-next .next .ensures) (at-d .d .given .1) in
     lexing-mark _ _ _ _ _ (at-loop .loop .inv) _ _ _ _ s
-    (c .before .before .before .before .before .before .before .before .put-record2 .ensures) (c .before .before .before .wide .ensures) (c .before .before .put-mark .ensures)
+    (c .before .before .before .before .before .before .before .before .put-record2 .ensures) (c .before .before .before .wide .ensures)
+    (c .before .before .put-mark .ensures)
 
 enum-known-d-2 : tie.Need-enum-known-d-2 Inv-loop μ-loop
 enum-known-d-2 c = search needs
@@ -161,7 +162,8 @@ returns c =
     let at-loop = at-next .before in
     let start = at-loop .before .before .before .before in
     let text = start .args .text .now in
-    lexing-end (start .args .marked) text (start .args .work .now) (at-loop .loop .c) _ (at-loop .loop .inv) _ _ (c .narrow .ensures) (told text (at-loop .loop .c) _ _ (at-next .next .ensures) (c .before .enum-told .given .1)) refl (start .pre .1 .1)
+    lexing-end (start .args .marked) text (start .args .work .now) (at-loop .loop .c) _ (at-loop .loop .inv) _ _ (c .narrow .ensures)
+    (told text (at-loop .loop .c) _ _ (at-next .next .ensures) (c .before .enum-told .given .1)) refl (start .pre .1 .1)
 
 enum-known-code : tie.Need-enum-known-code Inv-loop μ-loop
 enum-known-code c = search needs
@@ -187,7 +189,8 @@ returns-2 c =
     let start = at-loop .before .before .before .before in
     let work = start .args .work .now in
     let text = start .args .text .now in
-    lexing-fault (start .args .marked) text work (at-loop .loop .c) _ (at-loop .loop .inv) _ _ _ _ (length work) (c .before .wide2 .ensures) (c .narrow2 .ensures) ((told text (at-loop .loop .c) _ _ (at-next .next .ensures) (at-code .code .given .1)) .0)
+    lexing-fault (start .args .marked) text work (at-loop .loop .c) _ (at-loop .loop .inv) _ _ _ _ (length work) (c .before .wide2 .ensures)
+    (c .narrow2 .ensures) ((told text (at-loop .loop .c) _ _ (at-next .next .ensures) (at-code .code .given .1)) .0)
 
 pub lex-into-spec : {M : Type 1} → statement M
 lex-into-spec =

@@ -25,7 +25,8 @@ returns-2 : tie.Need-returns-2
 returns-2 c =
     let at-table-serves = c .before .before .before in
     let start = at-table-serves .before .before .before in
-    long-text (start .args .text .now) (start .args .table .now) (sym (at-table-serves .table-serves .ensures) ∙ not-false _ (c .before .before .if1 .left)) (sym (c .before .text-fits .ensures) ∙ not-true _ (c .if2 .taken))
+    long-text (start .args .text .now) (start .args .table .now) (sym (at-table-serves .table-serves .ensures) ∙ not-false _ (c .before .before .if1 .left))
+    (sym (c .before .text-fits .ensures) ∙ not-true _ (c .if2 .taken))
 
 tokens-tiny-requires : tie.Need-tokens-tiny-requires
 tokens-tiny-requires c κs =
@@ -43,7 +44,9 @@ returns-3 c =
     let at-if1 = at-text-fits .before in
     let at-table-serves = at-if1 .before in
     let start = at-table-serves .before .before .before in
-    tokens-by (start .args .text .now) (start .args .table .now) (sym (at-table-serves .table-serves .ensures) ∙ not-false _ (at-if1 .if1 .left)) (sym (at-text-fits .text-fits .ensures) ∙ not-false _ (at-if2 .if2 .left)) _ _ (c .before .before .tokens-tiny .ensures .0) (c .before .before .tokens-tiny .ensures .1)
+    tokens-by (start .args .text .now) (start .args .table .now) (sym (at-table-serves .table-serves .ensures) ∙ not-false _ (at-if1 .if1 .left))
+    (sym (at-text-fits .text-fits .ensures) ∙ not-false _ (at-if2 .if2 .left)) _ _ (c .before .before .tokens-tiny .ensures .0)
+    (c .before .before .tokens-tiny .ensures .1)
 
 tokens-short-requires : tie.Need-tokens-short-requires
 tokens-short-requires c κs =
@@ -61,7 +64,9 @@ returns-4 c =
     let at-if1 = at-text-fits .before in
     let at-table-serves = at-if1 .before in
     let start = at-table-serves .before .before .before in
-    tokens-by (start .args .text .now) (start .args .table .now) (sym (at-table-serves .table-serves .ensures) ∙ not-false _ (at-if1 .if1 .left)) (sym (at-text-fits .text-fits .ensures) ∙ not-false _ (at-if2 .if2 .left)) _ _ (c .before .before .tokens-short .ensures .0) (c .before .before .tokens-short .ensures .1)
+    tokens-by (start .args .text .now) (start .args .table .now) (sym (at-table-serves .table-serves .ensures) ∙ not-false _ (at-if1 .if1 .left))
+    (sym (at-text-fits .text-fits .ensures) ∙ not-false _ (at-if2 .if2 .left)) _ _ (c .before .before .tokens-short .ensures .0)
+    (c .before .before .tokens-short .ensures .1)
 
 tokens-middle-requires : tie.Need-tokens-middle-requires
 tokens-middle-requires c κs =
@@ -79,15 +84,19 @@ returns-5 c =
     let at-if1 = at-text-fits .before in
     let at-table-serves = at-if1 .before in
     let start = at-table-serves .before .before .before in
-    tokens-by (start .args .text .now) (start .args .table .now) (sym (at-table-serves .table-serves .ensures) ∙ not-false _ (at-if1 .if1 .left)) (sym (at-text-fits .text-fits .ensures) ∙ not-false _ (at-if2 .if2 .left)) _ _ (c .before .before .tokens-middle .ensures .0) (c .before .before .tokens-middle .ensures .1)
+    tokens-by (start .args .text .now) (start .args .table .now) (sym (at-table-serves .table-serves .ensures) ∙ not-false _ (at-if1 .if1 .left))
+    (sym (at-text-fits .text-fits .ensures) ∙ not-false _ (at-if2 .if2 .left)) _ _ (c .before .before .tokens-middle .ensures .0)
+    (c .before .before .tokens-middle .ensures .1)
 
 tokens-long-requires : tie.Need-tokens-long-requires
 tokens-long-requires c κs =
     let at-if2 = c .before .before .before .before in
     let at-text-fits = at-if2 .before in
     let at-if1 = at-text-fits .before in
-    let at-table-serves = at-if1 .before in
-    (leb-true _ maxText (sym (at-text-fits .text-fits .ensures) ∙ not-false _ (at-if2 .if2 .left)), leb-true tableWords _ (sym (at-table-serves .table-serves .ensures) ∙ not-false _ (at-if1 .if1 .left)))
+    let at-table-serves = at-if1 .before in (
+      leb-true _ maxText (sym (at-text-fits .text-fits .ensures) ∙ not-false _ (at-if2 .if2 .left)),
+      leb-true tableWords _ (sym (at-table-serves .table-serves .ensures) ∙ not-false _ (at-if1 .if1 .left)),
+    )
 
 same-length-4 : tie.Need-same-length-4
 same-length-4 c = search needs
@@ -99,7 +108,9 @@ returns-6 c =
     let at-if1 = at-text-fits .before in
     let at-table-serves = at-if1 .before in
     let start = at-table-serves .before .before .before in
-    tokens-by (start .args .text .now) (start .args .table .now) (sym (at-table-serves .table-serves .ensures) ∙ not-false _ (at-if1 .if1 .left)) (sym (at-text-fits .text-fits .ensures) ∙ not-false _ (at-if2 .if2 .left)) _ _ (c .before .before .tokens-long .ensures .0) (c .before .before .tokens-long .ensures .1)
+    tokens-by (start .args .text .now) (start .args .table .now) (sym (at-table-serves .table-serves .ensures) ∙ not-false _ (at-if1 .if1 .left))
+    (sym (at-text-fits .text-fits .ensures) ∙ not-false _ (at-if2 .if2 .left)) _ _ (c .before .before .tokens-long .ensures .0)
+    (c .before .before .tokens-long .ensures .1)
 
 pub tokens-spec : {M : Type 1} → statement M
 tokens-spec =

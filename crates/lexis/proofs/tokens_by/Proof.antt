@@ -30,7 +30,10 @@ copy-requires c κs =
     let at-n = c .before .before .before .before in
     let at-lex-into = at-n .before .before .before .before in
     let start = at-lex-into .before .before .before .before .before .before in
-    let r = (room-of _ _ (length (start .args .work .now)) (at-n .n .given .1) (at-lex-into .lex-into .ensures .1 .1)) in (omega (arith, r .1, c .words-of .ensures, written-length (lex (start .args .text .now)) _ _ (at-lex-into .lex-into .ensures .1 .0)), omega (arith, r .0, c .words-of .ensures, start .pre .1 .1))
+    let r = (room-of _ _ (length (start .args .work .now)) (at-n .n .given .1) (at-lex-into .lex-into .ensures .1 .1)) in (
+      omega (arith, r .1, c .words-of .ensures, written-length (lex (start .args .text .now)) _ _ (at-lex-into .lex-into .ensures .1 .0)),
+      omega (arith, r .0, c .words-of .ensures, start .pre .1 .1),
+    )
 
 enum-known-code : tie.Need-enum-known-code
 enum-known-code c = search needs
@@ -47,7 +50,9 @@ returns c =
     let at-n = at-words-of .before .before .before .before in
     let at-lex-into = at-n .before .before .before .before in
     let start = at-lex-into .before .before .before .before .before .before in
-    by-good (lex (start .args .text .now)) _ _ _ _ (start .args .table .now) _ (sym (at-n .n .given .1) ∙ at-lex-into .lex-into .ensures .0) (at-lex-into .lex-into .ensures .1 .0) (room-of _ _ (length (start .args .work .now)) (at-n .n .given .1) (at-lex-into .lex-into .ensures .1 .1)) (at-words-of .words-of .ensures) (start .pre .1 .1) (c .before .before .copy .ensures)
+    by-good (lex (start .args .text .now)) _ _ _ _ (start .args .table .now) _ (sym (at-n .n .given .1) ∙ at-lex-into .lex-into .ensures .0)
+    (at-lex-into .lex-into .ensures .1 .0) (room-of _ _ (length (start .args .work .now)) (at-n .n .given .1) (at-lex-into .lex-into .ensures .1 .1))
+    (at-words-of .words-of .ensures) (start .pre .1 .1) (c .before .before .copy .ensures)
 
 same-length-3 : tie.Need-same-length-3
 same-length-3 c = search needs

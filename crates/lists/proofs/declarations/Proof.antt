@@ -26,12 +26,16 @@ returns-2 : tie.Need-returns-2
 returns-2 c =
     let s = c .before .before .before .before .before .before in
     refused-list (s .args .list .now) (s .args .work .now)
-    (sym (c .before .before .before .work-serves .ensures) ∙ not-false _ (c .before .before .if1 .left)) (sym (c .before .text-fits .ensures) ∙ not-true _ (c .if2 .taken)) refl
+    (sym (c .before .before .before .work-serves .ensures) ∙ not-false _ (c .before .before .if1 .left))
+    (sym (c .before .text-fits .ensures) ∙ not-true _ (c .if2 .taken)) refl
 
 list-answer-requires : tie.Need-list-answer-requires
 list-answer-requires c κs =
-    let s = c .before .before .before .before .before .before .before in
-    (leb-true (length (s .args .list .now)) maxText (sym (c .before .before .text-fits .ensures) ∙ not-false _ (c .before .if2 .left)), leb-true workWords (length (s .args .work .now)) (sym (c .before .before .before .before .work-serves .ensures) ∙ not-false _ (c .before .before .before .if1 .left)))
+    let s = c .before .before .before .before .before .before .before in (
+      leb-true (length (s .args .list .now)) maxText (sym (c .before .before .text-fits .ensures) ∙ not-false _ (c .before .if2 .left)),
+      leb-true workWords (length (s .args .work .now))
+          (sym (c .before .before .before .before .work-serves .ensures) ∙ not-false _ (c .before .before .before .if1 .left)),
+    )
 
 clear-requires : tie.Need-clear-requires
 clear-requires c κs = search needs
@@ -45,7 +49,8 @@ returns-3 c =
     let g = c .before .before .before .before .before .before .before .before in
     let e = c .before .before .before .before .before .before .list-answer .ensures in
     ended (s .args .list .now) (s .args .work .now)
-    (sym (g .before .before .before .work-serves .ensures) ∙ not-false _ (g .before .before .if1 .left)) (sym (g .before .text-fits .ensures) ∙ not-false _ (g .if2 .left))
+    (sym (g .before .before .before .work-serves .ensures) ∙ not-false _ (g .before .before .if1 .left))
+    (sym (g .before .text-fits .ensures) ∙ not-false _ (g .if2 .left))
     (e .0) (c .before .before .clear .ensures) (e .1)
 
 pub declarations-spec : {M : Type 1} → statement M

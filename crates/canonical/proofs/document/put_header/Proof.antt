@@ -34,7 +34,8 @@ same-length : tie.Need-same-length
 same-length c =
     let outs = c .before .before .before .before .before .before .before .before .before .before .before .before in
     let ins = outs .before .before .before .before .before .before .before .before in
-    c .before .before .put-spaced2 .kept .0 ∙ c .before .before .before .before .before .before .before .put-spaced .kept .0 ∙ outs .put-names2 .kept .0 ∙ outs .before .before .before .before .put-arrow .kept .0 ∙ ins .put-names .kept .0 ∙ ins .before .before .before .before .put-title .kept .0
+    c .before .before .put-spaced2 .kept .0 ∙ c .before .before .before .before .before .before .before .put-spaced .kept .0 ∙ outs .put-names2 .kept .0
+    ∙ outs .before .before .before .before .put-arrow .kept .0 ∙ ins .put-names .kept .0 ∙ ins .before .before .before .before .put-title .kept .0
 
 returns : tie.Need-returns
 returns c d us e r =
@@ -46,7 +47,8 @@ returns c d us e r =
     (puts-then (ins .put-names .ensures (d .inputs) (t .behind) (t .inputs))
     (puts-then (outs .before .before .before .before .put-arrow .ensures)
     (puts-then (outs .put-names2 .ensures (d .outputs) us r)
-    (puts-then (c .before .before .before .before .before .before .before .put-spaced .ensures Kind.syntactic) (c .before .before .put-spaced2 .ensures Kind.syntactic)))))
+    (puts-then (c .before .before .before .before .before .before .before .put-spaced .ensures Kind.syntactic)
+    (c .before .before .put-spaced2 .ensures Kind.syntactic)))))
 
 pub put-header-spec : {M : Type 1} → statement M
 put-header-spec =

@@ -25,13 +25,15 @@ returns-2 : tie.Need-returns-2
 returns-2 c =
     let s = c .before .before .before .before .before .before .before .before .args in
     let v = c .before .before .before in
-    round-ends (s .text .now) (s .table .now) (s .n) (s .at) (s .equal) (v .before .before .symbol-at .ensures) (length (s .text .now)) (v .before .if1 .left) (v .value .ensures) (c .before .next .given .1)
+    round-ends (s .text .now) (s .table .now) (s .n) (s .at) (s .equal) (v .before .before .symbol-at .ensures) (length (s .text .now)) (v .before .if1 .left)
+    (v .value .ensures) (c .before .next .given .1)
 
 returns-3 : tie.Need-returns-3
 returns-3 c =
     let s = c .before .before .before .before .before .before .before .before .args in
     let v = c .before .before .before in
-    round-fault (s .text .now) (s .table .now) (s .n) (s .at) (s .equal) (v .before .before .symbol-at .ensures) (length (s .text .now)) (v .before .if1 .left) (v .value .ensures) (c .before .code .given .1)
+    round-fault (s .text .now) (s .table .now) (s .n) (s .at) (s .equal) (v .before .before .symbol-at .ensures) (length (s .text .now)) (v .before .if1 .left)
+    (v .value .ensures) (c .before .code .given .1)
 
 pub is-bracketed-spec : {M : Type 1} → statement M
 is-bracketed-spec = tie.close (tie.spec symbol-at-requires returns value-requires enum-known-next enum-known-code returns-2 returns-3)

@@ -11,13 +11,15 @@ is-bracketed-requires c κs = search needs
 add-put-parts : tie.Need-add-put-parts
 add-put-parts c =
     let s = c .before .before .before .before .before .before in
-    let h = brackets-past (s .args .text .now) (s .args .table .now) (s .args .n) (s .args .at) (s .args .equal) (sym (c .before .before .is-bracketed .ensures) ∙ c .before .if1 .taken) in
+    let h = brackets-past (s .args .text .now) (s .args .table .now) (s .args .n) (s .args .at) (s .args .equal)
+    (sym (c .before .before .is-bracketed .ensures) ∙ c .before .if1 .taken) in
     omega (arith, s .pre .1)
 
 sub-put-parts : tie.Need-sub-put-parts
 sub-put-parts c =
     let s = c .before .before .before .before .before .before in
-    let h = brackets-past (s .args .text .now) (s .args .table .now) (s .args .n) (s .args .at) (s .args .equal) (sym (c .before .before .is-bracketed .ensures) ∙ c .before .if1 .taken) in
+    let h = brackets-past (s .args .text .now) (s .args .table .now) (s .args .n) (s .args .at) (s .args .equal)
+    (sym (c .before .before .is-bracketed .ensures) ∙ c .before .if1 .taken) in
     omega arith
 
 put-parts-requires : tie.Need-put-parts-requires
@@ -30,7 +32,8 @@ returns : tie.Need-returns
 returns c v us u w parsed after read =
     let d = c .before .before .before .before in
     let s = c .before .before .before .before .before .before .before .before .before in
-    left-inner (s .args .text .now) (s .args .table .now) (s .args .n) (s .args .at) (s .args .equal) after (s .pre .1) u parsed read (sym (d .before .is-bracketed .ensures) ∙ d .if1 .taken) (c .before .before .put-parts .ensures)
+    left-inner (s .args .text .now) (s .args .table .now) (s .args .n) (s .args .at) (s .args .equal) after (s .pre .1) u parsed read
+    (sym (d .before .is-bracketed .ensures) ∙ d .if1 .taken) (c .before .before .put-parts .ensures)
 
 put-parts-requires-2 : tie.Need-put-parts-requires-2
 put-parts-requires-2 c κs = search needs
@@ -42,7 +45,9 @@ returns-2 : tie.Need-returns-2
 returns-2 c v us u w parsed after read =
     let d = c .before .before .before .before in
     let s = c .before .before .before .before .before .before .before .before .before in
-    left-whole (s .args .text .now) (s .args .table .now) (s .args .n) (s .args .at) (s .args .equal) after (s .pre .1) u parsed read (sym (d .before .is-bracketed .ensures) ∙ d .if1 .left) (c .before .before .put-parts2 .ensures)
+    left-whole (s .args .text .now) (s .args .table .now) (s .args .n) (s .args .at) (s .args .equal) after (s .pre .1) u parsed read
+    (sym (d .before .is-bracketed .ensures) ∙ d .if1 .left) (c .before .before .put-parts2 .ensures)
 
 pub put-left-spec : {M : Type 1} → statement M
-put-left-spec = tie.close (tie.spec is-bracketed-requires add-put-parts sub-put-parts put-parts-requires same-length returns put-parts-requires-2 same-length-2 returns-2)
+put-left-spec =
+    tie.close (tie.spec is-bracketed-requires add-put-parts sub-put-parts put-parts-requires same-length returns put-parts-requires-2 same-length-2 returns-2)

@@ -13,7 +13,10 @@ use Rattle.canonical.proofs.pattern.put_parts.Tie as tie
 
 abbrev Inv-loop : tie.InvT-loop
 Inv-loop out₀ text table n from to place₀ i₀ out place i =
-    (length out ≡ length out₀) × ((out' : List ℕ) (s' : Place) → Puts (patternPieces (toks text table to i)) out out' place s' → Puts (patternPieces (toks text table to from)) out₀ out' place₀ s')
+    (length out ≡ length out₀)
+    ×
+    ((out' : List ℕ) (s' : Place) → Puts (patternPieces (toks text table to i)) out out' place s'
+    → Puts (patternPieces (toks text table to from)) out₀ out' place₀ s')
 
 abbrev μ-loop : tie.MeasureT-loop
 μ-loop out₀ text table n from to place₀ i₀ out place i = to - i

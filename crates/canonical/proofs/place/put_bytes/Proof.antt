@@ -1,52 +1,64 @@
--- What is left of the word goes on from where its first i bytes ended.
-use mathlib.Core.Path.{_≡_, refl, sym, ap, _∙_}
-use Prim.Native.Nat.{_-_}
-use lib.ListN.{length, drop}
+-- All at once where the output holds them, else one by one.
+use mathlib.Core.Path.{sym, _∙_}
+use Prim.Native.Nat.{_+_, _≤_}
+use native.Mathlib.Omega.{arith}
+use lib.ListN.{length}
+use borrow.Author.Tests.{leb-true, not-false}
+use Rattle.canonical.proofs.Measures.{passed-is}
 use borrow.Author.Needs.{needs}
-use Rattle.canonical.specs.Writing.{passed, stored}
-use Rattle.canonical.proofs.Putting.{passed-step, stored-step, passed-end, stored-end, stored-length}
 use Rattle.canonical.proofs.place.put_bytes.Statement.{statement}
 use Rattle.canonical.proofs.place.put_bytes.Tie as tie
 
-abbrev Inv-loop : tie.InvT-loop
-Inv-loop out₀ at word end₀ i₀ out end i = (passed end (drop i word) ≡ passed at word) × (stored out end (drop i word) ≡ stored out₀ at word)
+lies-in-requires : tie.Need-lies-in-requires
+lies-in-requires c κs = search needs
 
-abbrev μ-loop : tie.MeasureT-loop
-μ-loop out₀ at word end₀ i₀ out end i = length word - i
+put-slowly-requires : tie.Need-put-slowly-requires
+put-slowly-requires c κs = search needs
 
-loop-holds : tie.Need-loop-holds Inv-loop μ-loop
-loop-holds c = (refl, refl)
+same-length : tie.Need-same-length
+same-length c = search needs
 
-shared-slice-read-put-byte : tie.Need-shared-slice-read-put-byte Inv-loop μ-loop
-shared-slice-read-put-byte c = search needs
+returns : tie.Need-returns
+returns c = search needs
 
-put-byte-requires : tie.Need-put-byte-requires Inv-loop μ-loop
-put-byte-requires c κs = search needs
+paste-requires : tie.Need-paste-requires
+paste-requires c κs =
+    let at-if1 = c .before in
+    let at-lies-in = at-if1 .before in
+    leb-true _ _ (sym (at-lies-in .lies-in .ensures) ∙ not-false _ (at-if1 .if1 .left))
 
-add-i : tie.Need-add-i Inv-loop μ-loop
-add-i c = search needs
+add-result : tie.Need-add-result
+add-result c =
+    let at-if1 = c .before .before .before .before in
+    let at-lies-in = at-if1 .before in
+    let s = at-lies-in .before .before .before in
+    let a = s .args in
+    let h : a .at + length (a .word .now) ≤ length (a .out .now) = leb-true _ _ (sym (at-lies-in .lies-in .ensures) ∙ not-false _ (at-if1 .if1 .left)) in
+    let g = s .good in
+    record { fits = omega (arith, h, g .0) }
 
-loop-less : tie.Need-loop-less Inv-loop μ-loop
-loop-less c = search needs
+same-length-2 : tie.Need-same-length-2
+same-length-2 c = search needs
 
-loop-again : tie.Need-loop-again Inv-loop μ-loop
-loop-again c =
-    let s = c .before .before .before .before .before .before .before .before .before .args in
-    let l = c .before .before .before .before .before .before .loop in
-    let p = c .before .before .put-byte in
-    let h = c .before .before .before .before .before .loop-test .taken in (
-      rw (p .ensures .0) (sym (passed-step (l .end) (s .word .now) (l .i) h) ∙ l .inv .0),
-      rw (p .ensures .0, p .ensures .1) (sym (stored-step (l .out) (l .end) (s .word .now) (l .i) h) ∙ l .inv .1),
-    )
-
-returns : tie.Need-returns Inv-loop μ-loop
-returns c =
-    let s = c .before .before .before .before .args in
-    let l = c .before .loop in
-    (sym (passed-end (l .end) (s .word .now) (l .i) (c .loop-test .left)) ∙ l .inv .0, sym (stored-end (l .out) (l .end) (s .word .now) (l .i) (c .loop-test .left)) ∙ l .inv .1)
-
-same-length : tie.Need-same-length Inv-loop μ-loop
-same-length c = let s = c .before .before .before .before .args in ap length (returns c .1) ∙ stored-length (s .out .now) (s .at) (s .word .now)
+returns-2 : tie.Need-returns-2
+returns-2 c =
+    let at-paste = c .before .before in
+    let at-if1 = at-paste .before .before in
+    let at-lies-in = at-if1 .before in
+    let entry = at-lies-in .before .before .before in
+    let a = entry .args in
+    let h : a .at + length (a .word .now) ≤ length (a .out .now) = leb-true _ _ (sym (at-lies-in .lies-in .ensures) ∙ not-false _ (at-if1 .if1 .left)) in
+    (omega (arith, h, passed-is (a .at) (a .word .now) (omega (arith, h))), at-paste .paste .ensures)
 
 pub put-bytes-spec : {M : Type 1} → statement M
-put-bytes-spec = tie.close (tie.spec Inv-loop μ-loop loop-holds shared-slice-read-put-byte put-byte-requires add-i loop-less loop-again same-length returns)
+put-bytes-spec =
+    tie.close
+    (tie.spec
+    lies-in-requires
+    put-slowly-requires
+    same-length
+    returns
+    paste-requires
+    add-result
+    same-length-2
+    returns-2)

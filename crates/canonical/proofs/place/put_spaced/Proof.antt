@@ -6,14 +6,14 @@ use Rattle.canonical.proofs.place.put_spaced.Tie as tie
 write-line-requires : tie.Need-write-line-requires
 write-line-requires c κs = search needs
 
-next-token-requires : tie.Need-next-token-requires
-next-token-requires c κs = search needs
+one-more-requires : tie.Need-one-more-requires
+one-more-requires c κs = search needs
 
 same-length : tie.Need-same-length
 same-length c = search needs
 
 returns : tie.Need-returns
-returns c k = let w = c .before .before .before .write-line in puts-piece _ (w .ensures .1) (w .ensures .0) (c .next-token .ensures)
+returns c k = let w = c .before .before .before .write-line in puts-piece _ (w .ensures .1) (w .ensures .0) (c .one-more .ensures)
 
 pub put-spaced-spec : {M : Type 1} → statement M
-put-spaced-spec = tie.close (tie.spec write-line-requires next-token-requires same-length returns)
+put-spaced-spec = tie.close (tie.spec write-line-requires one-more-requires same-length returns)

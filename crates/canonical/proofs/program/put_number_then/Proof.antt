@@ -19,7 +19,8 @@ returns : tie.Need-returns
 returns c =
     let s = c .before .before .before .before .before .before .before .before .before .args in
     let p = c .before .before .before .before .before .before .put-digits in
-    stores-then (s .out .now) (s .at) (decimal (s .n)) (s .b ∷ []) (p .ensures) (stores-byte (p .last .0) (p .result) (s .b) (c .before .before .put-byte .ensures))
+    stores-then (s .out .now) (s .at) (decimal (s .n)) (s .b ∷ []) (p .ensures)
+    (stores-byte (p .last .0) (p .result) (s .b) (c .before .before .put-byte .ensures))
 
 pub put-number-then-spec : {M : Type 1} → statement M
 put-number-then-spec = tie.close (tie.spec put-digits-requires put-byte-requires same-length returns)

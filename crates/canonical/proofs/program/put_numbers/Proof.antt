@@ -25,7 +25,8 @@ returns c =
     let text = position .before .before .before .before in
     let code = text .before .before .before .before in
     let s = code .before .before .before .args in
-    numbers-stored (s .a) (s .out .now) (code .put-number-then .ensures) (text .put-number-then2 .ensures) (position .put-number-then3 .ensures) (c .before .before .put-number-then4 .ensures)
+    numbers-stored (s .a) (s .out .now) (code .put-number-then .ensures) (text .put-number-then2 .ensures) (position .put-number-then3 .ensures)
+    (c .before .before .put-number-then4 .ensures)
 
 pub put-numbers-spec : {M : Type 1} → statement M
 put-numbers-spec =

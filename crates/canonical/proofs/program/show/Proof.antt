@@ -44,7 +44,8 @@ returns-2 c =
     let canon = c .before .before .before .before .before .before .before .before .before .before .before .before in
     let s = canon .before .before .before .before .before .before .before .before .before .args in
     let e = canon .canon .ensures in
-    let p = numbers-shown (s .list .now) (s .doc .now) (s .work1 .now) (s .work2 .now) (s .out .now) (e .0) (e .1 .0) (c .before .before .before .before .if1 .left) (c .before .before .put-numbers .ensures) in
+    let p = numbers-shown (s .list .now) (s .doc .now) (s .work1 .now) (s .work2 .now) (s .out .now) (e .0) (e .1 .0)
+    (c .before .before .before .before .if1 .left) (c .before .before .put-numbers .ensures) in
     (p .0, (p .1, rw (← e .0) (e .1 .1)))
 
 pub show-spec : {M : Type 1} → statement M

@@ -11,10 +11,14 @@ put-byte-requires : tie.Need-put-byte-requires
 put-byte-requires c κs = search needs
 
 sub-put-digits : tie.Need-sub-put-digits
-sub-put-digits c = let s = c .before .before .before .before .before .before .before in minus-fits (s .args .e) (s .pre) (c .before .before .before .before .before .if1 .taken)
+sub-put-digits c =
+    let s = c .before .before .before .before .before .before .before in
+    minus-fits (s .args .e) (s .pre) (c .before .before .before .before .before .if1 .taken)
 
 cast-put-digits : tie.Need-cast-put-digits
-cast-put-digits c = let s = c .before .before .before .before .before .before .before in minus-casts (s .args .e) (s .pre) (c .before .before .before .before .before .if1 .taken)
+cast-put-digits c =
+    let s = c .before .before .before .before .before .before .before in
+    minus-casts (s .args .e) (s .pre) (c .before .before .before .before .before .if1 .taken)
 
 put-digits-requires : tie.Need-put-digits-requires
 put-digits-requires c κs = search needs
@@ -27,7 +31,8 @@ returns c =
     let s = c .before .before .before .before .before .before .before .before .before .before in
     let sign = c .before .before .before .before .before .before .put-byte in
     rw (minus-spelt (s .args .e) (s .pre) (c .before .before .before .before .before .before .before .before .if1 .taken))
-    (stores-then (s .args .out .now) (s .args .at) (byte "-" ∷ []) _ (stores-byte (s .args .out .now) (s .args .at) (byte "-") (sign .ensures)) (c .before .before .put-digits .ensures))
+    (stores-then (s .args .out .now) (s .args .at) (byte "-" ∷ []) _ (stores-byte (s .args .out .now) (s .args .at) (byte "-") (sign .ensures))
+    (c .before .before .put-digits .ensures))
 
 cast-put-digits-2 : tie.Need-cast-put-digits-2
 cast-put-digits-2 c = let s = c .before .before .before in plus-casts (s .args .e) (s .pre) (c .before .if1 .left)
@@ -39,7 +44,9 @@ same-length-2 : tie.Need-same-length-2
 same-length-2 c = search needs
 
 returns-2 : tie.Need-returns-2
-returns-2 c = let s = c .before .before .before .before .before .before in rw (plus-spelt (s .args .e) (s .pre) (c .before .before .before .before .if1 .left)) (c .before .before .put-digits2 .ensures)
+returns-2 c =
+    let s = c .before .before .before .before .before .before in
+    rw (plus-spelt (s .args .e) (s .pre) (c .before .before .before .before .if1 .left)) (c .before .before .put-digits2 .ensures)
 
 pub put-exponent-spec : {M : Type 1} → statement M
 put-exponent-spec =

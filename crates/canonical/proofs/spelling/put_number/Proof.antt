@@ -26,7 +26,10 @@ same-length c = search needs
 returns : tie.Need-returns
 returns c ok k =
     let w = c .before .before .before .before .before .before .before .before .before .before .args .word .now in
-    rw (reduced-is w (sym (c .before .before .before .before .before .before .before .reduce .ensures) ∙ c .before .before .before .before .before .mantissa .given .1)) (c .before .before .put-reduced .ensures k)
+    rw
+    (reduced-is w
+    (sym (c .before .before .before .before .before .before .before .reduce .ensures) ∙ c .before .before .before .before .before .mantissa .given .1))
+    (c .before .before .put-reduced .ensures k)
 
 returns-2 : tie.Need-returns-2
 returns-2 c ok =

@@ -10,8 +10,8 @@ quote-for-requires c κs = search needs
 write-quoted-requires : tie.Need-write-quoted-requires
 write-quoted-requires c κs = search needs
 
-next-token-requires : tie.Need-next-token-requires
-next-token-requires c κs = search needs
+one-more-requires : tie.Need-one-more-requires
+one-more-requires c κs = search needs
 
 same-length : tie.Need-same-length
 same-length c = search needs
@@ -20,7 +20,7 @@ returns : tie.Need-returns
 unfolding spellString
 returns c =
     let w = c .before .before .before .write-quoted in
-    rw (← c .before .before .before .before .before .quote-for .ensures) (puts-word _ (w .ensures .1) (w .ensures .0) (c .next-token .ensures))
+    rw (← c .before .before .before .before .before .quote-for .ensures) (puts-word _ (w .ensures .1) (w .ensures .0) (c .one-more .ensures))
 
 pub put-quoted-spec : {M : Type 1} → statement M
-put-quoted-spec = tie.close (tie.spec quote-for-requires write-quoted-requires next-token-requires same-length returns)
+put-quoted-spec = tie.close (tie.spec quote-for-requires write-quoted-requires one-more-requires same-length returns)

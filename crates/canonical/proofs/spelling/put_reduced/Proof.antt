@@ -17,8 +17,8 @@ put-byte-requires c κs = search needs
 put-exponent-requires : tie.Need-put-exponent-requires
 put-exponent-requires c κs = search needs
 
-next-token-requires : tie.Need-next-token-requires
-next-token-requires c κs = search needs
+one-more-requires : tie.Need-one-more-requires
+one-more-requires c κs = search needs
 
 same-length : tie.Need-same-length
 same-length c = search needs
@@ -29,10 +29,12 @@ returns c =
     let s = c .before .before .before .before .before .before .before .before .before .before .before .before .before .before .args in
     let whole = c .before .before .before .before .before .before .before .before .before .before .before .put-digits in
     let letter = c .before .before .before .before .before .before .before .put-byte in
-    let power = rw (toZ-ofZ (c .before .before .before .before .before .before .before .before .before .before .before .before .before .before .fits .exponent)) at (c .before .before .before .put-exponent .ensures) in
-    let e = stores-then (whole .last .0) (whole .result) (byte "e" ∷ []) (spellExponent (s .exponent)) (stores-byte (whole .last .0) (whole .result) (byte "e") (letter .ensures)) power in
+    let power = rw (toZ-ofZ (c .before .before .before .before .before .before .before .before .before .before .before .before .before .before .fits .exponent))
+    at (c .before .before .before .put-exponent .ensures) in
+    let e = stores-then (whole .last .0) (whole .result) (byte "e" ∷ []) (spellExponent (s .exponent))
+    (stores-byte (whole .last .0) (whole .result) (byte "e") (letter .ensures)) power in
     let f = stores-then (s .out .now) (s .s .bytes) (decimal (s .mantissa)) (byte "e" ∷ spellExponent (s .exponent)) (whole .ensures) e in
-    puts-word _ (f .1) (f .0) (c .next-token .ensures)
+    puts-word _ (f .1) (f .0) (c .one-more .ensures)
 
 pub put-reduced-spec : {M : Type 1} → statement M
 put-reduced-spec =
@@ -41,6 +43,6 @@ put-reduced-spec =
     put-digits-requires
     put-byte-requires
     put-exponent-requires
-    next-token-requires
+    one-more-requires
     same-length
     returns)

@@ -35,7 +35,8 @@ same-length-2 : tie.Need-same-length-2
 same-length-2 c = search needs
 
 returns-2 : tie.Need-returns-2
-returns-2 c k = rw (← content-long (c .before .before .before .before .before .before .before .before .args .word .now)) (c .before .before .put-quoted2 .ensures k)
+returns-2 c k =
+    rw (← content-long (c .before .before .before .before .before .before .before .before .args .word .now)) (c .before .before .put-quoted2 .ensures k)
 
 pub put-string-spec : {M : Type 1} → statement M
 put-string-spec =

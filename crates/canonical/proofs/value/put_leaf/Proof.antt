@@ -1,5 +1,5 @@
+-- The token that stands there, by its kind and bytes.
 use mathlib.Core.Path.{refl}
-use Prim.Native.Nat.{_-_}
 use native.Mathlib.Omega.{arith}
 use Rattle.syntax.specs.Table.{tokenAt}
 use borrow.Author.Needs.{needs}
@@ -35,27 +35,35 @@ shared-slice-read-put-spelt c = search needs
 
 sub-put-spelt : tie.Need-sub-put-spelt
 sub-put-spelt c =
-    let s = c .before .before .before .before .before .before .before in
+    let at-word2 = c .before .before in
+    let at-word = at-word2 .before in
+    let s = at-word .before .before .before .before in
     let w = s .pre .0 .within (s .args .i) (s .pre .1 .1) in
-    omega (arith, c .before .before .before .word .ensures, c .before .before .word2 .ensures)
+    omega (arith, at-word .word .ensures, at-word2 .word2 .ensures)
 
 part-put-spelt-start : tie.Need-part-put-spelt-start
 part-put-spelt-start c =
-    let s = c .before .before .before .before .before .before .before in
+    let at-word2 = c .before .before in
+    let at-word = at-word2 .before in
+    let s = at-word .before .before .before .before in
     let w = s .pre .0 .within (s .args .i) (s .pre .1 .1) in
-    omega (arith, c .before .before .before .word .ensures, c .before .before .word2 .ensures)
+    omega (arith, at-word .word .ensures, at-word2 .word2 .ensures)
 
 part-put-spelt-end : tie.Need-part-put-spelt-end
 part-put-spelt-end c =
-    let s = c .before .before .before .before .before .before .before in
+    let at-word2 = c .before .before in
+    let at-word = at-word2 .before in
+    let s = at-word .before .before .before .before in
     let w = s .pre .0 .within (s .args .i) (s .pre .1 .1) in
-    omega (arith, c .before .before .before .word .ensures, c .before .before .word2 .ensures)
+    omega (arith, at-word .word .ensures, at-word2 .word2 .ensures)
 
 put-spelt-requires : tie.Need-put-spelt-requires
 unfolding tokenAt
-put-spelt-requires c κs n =
-    let s = c .before .before .before .before .before .before .before .before in
-    simp (c .before .before .before .before .word .ensures, c .before .before .before .word2 .ensures) (s .pre .1 .0 .within (s .args .i) (s .pre .1 .1) n)
+put-spelt-requires c κs =
+    let at-word2 = c .before .before .before in
+    let at-word = at-word2 .before in
+    let s = at-word .before .before .before .before in
+    (s .pre .1 .0 .classed, simp (at-word .word .ensures, at-word2 .word2 .ensures) (s .pre .1 .0 .within (s .args .i) (s .pre .1 .1)))
 
 same-length : tie.Need-same-length
 same-length c = search needs
@@ -63,8 +71,12 @@ same-length c = search needs
 returns : tie.Need-returns
 unfolding tokenAt
 returns c u v is e =
-    let a = c .before .before .before .before .before .before .before .before .before .before .before .args in
-    c .before .before .put-spelt .ensures (tokenAt (a .text .now) (a .table .now) (a .i)) u v refl (simp (c .before .before .before .before .before .before .before .word .ensures, c .before .before .before .before .before .before .word2 .ensures)) is e
+    let at-put-spelt = c .before .before in
+    let at-word2 = at-put-spelt .before .before .before .before in
+    let at-word = at-word2 .before in
+    let entry = at-word .before .before .before .before in
+    let a = entry .args in
+    at-put-spelt .put-spelt .ensures (tokenAt (a .text .now) (a .table .now) (a .i)) u v refl (simp (at-word .word .ensures, at-word2 .word2 .ensures)) is e
 
 pub put-leaf-spec : {M : Type 1} → statement M
 put-leaf-spec =

@@ -17,7 +17,8 @@ returns c =
     let a = c .before .before .before .before .before .before .before .before .before .before .before .args in
     let u = c .before .before .before .before .before .shape-at in
     let x = c .before .before .before .put-base in
-    value-put (a .vtext .now) (a .vtable .now) (a .vn) (a .v) (a .ttext .now) (a .ttable .now) (a .tn) (a .t) (u .result .pairs) (u .result .at) (u .ensures .1) (x .result) (x .ensures .1)
+    value-put (a .vtext .now) (a .vtable .now) (a .vn) (a .v) (a .ttext .now) (a .ttable .now) (a .tn) (a .t) (u .result .pairs) (u .result .at) (u .ensures .1)
+    (x .result) (x .ensures .1)
 
 pub put-value-spec : {M : Type 1} → statement M
 put-value-spec = tie.close (tie.spec shape-at-requires put-base-requires same-length returns)

@@ -18,13 +18,21 @@ add-result : tie.Need-add-result
 add-result c = search needs
 
 returns : tie.Need-returns
-returns c = past-semicolon (c .before .before .before .before .args .close) (toks (c .before .before .before .before .args .text .now) (c .before .before .before .before .args .table .now) (c .before .before .before .before .args .n) (c .before .before .before .before .args .close + 1)) (c .before .symbol-at .ensures) (c .if1 .taken)
+returns c =
+    past-semicolon (c .before .before .before .before .args .close)
+    (toks (c .before .before .before .before .args .text .now) (c .before .before .before .before .args .table .now)
+    (c .before .before .before .before .args .n) (c .before .before .before .before .args .close + 1))
+    (c .before .symbol-at .ensures) (c .if1 .taken)
 
 add-result-2 : tie.Need-add-result-2
 add-result-2 c = search needs
 
 returns-2 : tie.Need-returns-2
-returns-2 c = no-semicolon (c .before .before .before .before .args .close) (toks (c .before .before .before .before .args .text .now) (c .before .before .before .before .args .table .now) (c .before .before .before .before .args .n) (c .before .before .before .before .args .close + 1)) (c .before .symbol-at .ensures) (c .if1 .left)
+returns-2 c =
+    no-semicolon (c .before .before .before .before .args .close)
+    (toks (c .before .before .before .before .args .text .now) (c .before .before .before .before .args .table .now)
+    (c .before .before .before .before .args .n) (c .before .before .before .before .args .close + 1))
+    (c .before .symbol-at .ensures) (c .if1 .left)
 
 pub after-call-spec : {M : Type 1} → statement M
 after-call-spec =

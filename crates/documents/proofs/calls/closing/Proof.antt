@@ -28,7 +28,15 @@ open-after-requires : tie.Need-open-after-requires Inv-loop μ-loop
 open-after-requires c κs = omega (arith, c .before .before .loop .inv .1, c .before .before .before .before .before .pre .room, c .before .loop-test .taken)
 
 returns : tie.Need-returns Inv-loop μ-loop
-returns c = (omega (arith, c .before .before .before .before .loop .inv .0), omega arith, closed-here (c .before .before .before .before .before .before .before .args .text .now) (c .before .before .before .before .before .before .before .args .table .now) (c .before .before .before .before .before .before .before .args .n) (c .before .before .before .before .loop .i) (c .before .before .before .before .loop .depth) (c .before .before .before .loop-test .taken) (c .before .before .symbol-at .ensures) (c .before .open-after .ensures) (c .if1 .taken) ∙ sym (c .before .before .before .before .loop .inv .2))
+returns c = (
+  omega (arith, c .before .before .before .before .loop .inv .0),
+  omega arith,
+  closed-here (c .before .before .before .before .before .before .before .args .text .now)
+      (c .before .before .before .before .before .before .before .args .table .now) (c .before .before .before .before .before .before .before .args .n)
+      (c .before .before .before .before .loop .i) (c .before .before .before .before .loop .depth) (c .before .before .before .loop-test .taken)
+      (c .before .before .symbol-at .ensures) (c .before .open-after .ensures) (c .if1 .taken)
+      ∙ sym (c .before .before .before .before .loop .inv .2),
+)
 
 add-i : tie.Need-add-i Inv-loop μ-loop
 add-i c = search needs
@@ -37,10 +45,29 @@ loop-less : tie.Need-loop-less Inv-loop μ-loop
 loop-less c = search needs
 
 loop-again : tie.Need-loop-again Inv-loop μ-loop
-loop-again c = (omega (arith, c .before .before .before .before .loop .inv .0), omega (arith, c .before .before .before .before .loop .inv .1, c .before .open-after .ensures, open-le (c .before .before .before .before .loop .depth) (c .before .before .symbol-at .result)), c .before .before .before .before .loop .inv .2 ∙ closed-next (c .before .before .before .before .before .before .before .args .text .now) (c .before .before .before .before .before .before .before .args .table .now) (c .before .before .before .before .before .before .before .args .n) (c .before .before .before .before .loop .i) (c .before .before .before .before .loop .depth) (c .before .before .before .loop-test .taken) (c .before .before .symbol-at .ensures) (c .before .open-after .ensures) (c .if1 .left))
+loop-again c = (
+  omega (arith, c .before .before .before .before .loop .inv .0),
+  omega (
+    arith,
+    c .before .before .before .before .loop .inv .1,
+    c .before .open-after .ensures,
+    open-le (c .before .before .before .before .loop .depth) (c .before .before .symbol-at .result),
+  ),
+  c .before .before .before .before .loop .inv .2
+      ∙ closed-next (c .before .before .before .before .before .before .before .args .text .now)
+      (c .before .before .before .before .before .before .before .args .table .now) (c .before .before .before .before .before .before .before .args .n)
+      (c .before .before .before .before .loop .i) (c .before .before .before .before .loop .depth) (c .before .before .before .loop-test .taken)
+      (c .before .before .symbol-at .ensures) (c .before .open-after .ensures) (c .if1 .left),
+)
 
 returns-2 : tie.Need-returns-2 Inv-loop μ-loop
-returns-2 c = (omega arith, omega arith, closed-end (c .before .before .before .before .args .text .now) (c .before .before .before .before .args .table .now) (c .before .before .before .before .args .n) (c .before .loop .i) (c .before .loop .depth) (c .loop-test .left) ∙ sym (c .before .loop .inv .2))
+returns-2 c = (
+  omega arith,
+  omega arith,
+  closed-end (c .before .before .before .before .args .text .now) (c .before .before .before .before .args .table .now)
+      (c .before .before .before .before .args .n) (c .before .loop .i) (c .before .loop .depth) (c .loop-test .left)
+      ∙ sym (c .before .loop .inv .2),
+)
 
 pub closing-spec : {M : Type 1} → statement M
 closing-spec =

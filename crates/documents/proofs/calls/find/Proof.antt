@@ -24,7 +24,14 @@ symbol-at-requires : tie.Need-symbol-at-requires Inv-loop μ-loop
 symbol-at-requires c κs = search needs
 
 returns : tie.Need-returns Inv-loop μ-loop
-returns c = (omega (arith, c .before .before .before .loop .inv .0), omega arith, find-here (c .before .before .before .before .before .before .args .text .now) (c .before .before .before .before .before .before .args .table .now) (c .before .before .before .before .before .before .args .n) (c .before .before .before .loop .i) (c .before .before .before .before .before .before .args .s) (c .before .before .loop-test .taken) (c .before .symbol-at .ensures) (c .if1 .taken) ∙ sym (c .before .before .before .loop .inv .1))
+returns c = (
+  omega (arith, c .before .before .before .loop .inv .0),
+  omega arith,
+  find-here (c .before .before .before .before .before .before .args .text .now) (c .before .before .before .before .before .before .args .table .now)
+      (c .before .before .before .before .before .before .args .n) (c .before .before .before .loop .i)
+      (c .before .before .before .before .before .before .args .s) (c .before .before .loop-test .taken) (c .before .symbol-at .ensures) (c .if1 .taken)
+      ∙ sym (c .before .before .before .loop .inv .1),
+)
 
 add-i : tie.Need-add-i Inv-loop μ-loop
 add-i c = search needs
@@ -33,10 +40,22 @@ loop-less : tie.Need-loop-less Inv-loop μ-loop
 loop-less c = search needs
 
 loop-again : tie.Need-loop-again Inv-loop μ-loop
-loop-again c = (omega (arith, c .before .before .before .loop .inv .0), c .before .before .before .loop .inv .1 ∙ find-next (c .before .before .before .before .before .before .args .text .now) (c .before .before .before .before .before .before .args .table .now) (c .before .before .before .before .before .before .args .n) (c .before .before .before .loop .i) (c .before .before .before .before .before .before .args .s) (c .before .before .loop-test .taken) (c .before .symbol-at .ensures) (c .if1 .left))
+loop-again c = (
+  omega (arith, c .before .before .before .loop .inv .0),
+  c .before .before .before .loop .inv .1
+      ∙ find-next (c .before .before .before .before .before .before .args .text .now) (c .before .before .before .before .before .before .args .table .now)
+      (c .before .before .before .before .before .before .args .n) (c .before .before .before .loop .i)
+      (c .before .before .before .before .before .before .args .s) (c .before .before .loop-test .taken) (c .before .symbol-at .ensures) (c .if1 .left),
+)
 
 returns-2 : tie.Need-returns-2 Inv-loop μ-loop
-returns-2 c = (omega arith, omega arith, find-end (c .before .before .before .before .args .text .now) (c .before .before .before .before .args .table .now) (c .before .before .before .before .args .n) (c .before .loop .i) (c .before .before .before .before .args .s) (c .loop-test .left) ∙ sym (c .before .loop .inv .1))
+returns-2 c = (
+  omega arith,
+  omega arith,
+  find-end (c .before .before .before .before .args .text .now) (c .before .before .before .before .args .table .now)
+      (c .before .before .before .before .args .n) (c .before .loop .i) (c .before .before .before .before .args .s) (c .loop-test .left)
+      ∙ sym (c .before .loop .inv .1),
+)
 
 pub find-spec : {M : Type 1} → statement M
 find-spec =

@@ -23,17 +23,21 @@ after-call-requires : tie.Need-after-call-requires
 after-call-requires c κs = search needs
 
 returns : tie.Need-returns
-returns c = let f : Found (c .before .before .before .before .before .args .text .now) (c .before .before .before .before .before .args .table .now) (c .before .before .before .before .before .args .n) (c .before .before .before .before .before .args .at) (record { equal = c .before .before .find .result; close = c .before .closing .result; next = c .after-call .result }) =
+returns c =
+    let closed = c .before in
+    let sought = closed .before in
+    let s = sought .before .before .before in
+    let a = s .args in
+    let f : Found (a .text .now) (a .table .now) (a .n) (a .at)
+    (record { equal = sought .find .result; close = closed .closing .result; next = c .after-call .result }) =
     record {
-      from = omega (arith, c .before .before .find .ensures .0, c .before .before .before .before .before .pre .1);
-      left = c .before .before .find .ensures .1;
-      equal-is = c .before .before .find .ensures .2;
-      within = c .before .closing .ensures .0;
-      right = c .before .closing .ensures .1;
-      close-is = c .before .closing .ensures .2;
+      equal-is = record { from = omega (arith, sought .find .ensures .0, s .pre .1); left = sought .find .ensures .1; is = sought .find .ensures .2 };
+      within = closed .closing .ensures .0;
+      right = closed .closing .ensures .1;
+      close-is = closed .closing .ensures .2;
       next-is = c .after-call .ensures;
     } in
-    (found-in (c .before .before .before .before .before .args .text .now) (c .before .before .before .before .before .args .table .now) (c .before .before .before .before .before .args .n) (c .before .before .before .before .before .args .at) _ (c .before .before .before .before .before .pre .1) f, call-at (c .before .before .before .before .before .args .text .now) (c .before .before .before .before .before .args .table .now) (c .before .before .before .before .before .args .n) (c .before .before .before .before .before .args .at) _ f)
+    (found-in (a .text .now) (a .table .now) (a .n) (a .at) _ (s .pre .1) f, call-at (a .text .now) (a .table .now) (a .n) (a .at) _ f)
 
 pub places-at-spec : {M : Type 1} → statement M
 places-at-spec =

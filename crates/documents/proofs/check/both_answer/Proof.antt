@@ -1,7 +1,8 @@
 -- All stages, then the tables where both texts pass.
-use native.Mathlib.Omega.{arith}
 use Rattle.documents.proofs.BothStages.{both-passed, both-stopped}
-use Rattle.documents.proofs.Checks.{ended-stopped}
+use Rattle.documents.proofs.Checks.{ended-passed, ended-stopped}
+use mathlib.Core.Path.{refl}
+use Rattle.lists.proofs.ListStages.{served-zeros}
 use borrow.Author.Needs.{needs}
 use Rattle.documents.proofs.check.both_answer.Statement.{statement}
 use Rattle.documents.proofs.check.both_answer.Tie as tie
@@ -9,23 +10,30 @@ use Rattle.documents.proofs.check.both_answer.Tie as tie
 slice-aggregate-both-stages : tie.Need-slice-aggregate-both-stages
 slice-aggregate-both-stages c = search needs
 
-both-stages-requires : tie.Need-both-stages-requires
-both-stages-requires c κs = let p = c .before .before .before .before .before .before .before .before .before .pre in (p .0, (p .1 .0 .0, (p .1 .0 .1, search needs)))
+slice-aggregate-both-stages-2 : tie.Need-slice-aggregate-both-stages-2
+slice-aggregate-both-stages-2 c = search needs
 
-enum-known-n : tie.Need-enum-known-n
-enum-known-n c = search needs
+slice-aggregate-both-stages-3 : tie.Need-slice-aggregate-both-stages-3
+slice-aggregate-both-stages-3 c = search needs
+
+both-stages-requires : tie.Need-both-stages-requires
+both-stages-requires c κs =
+    let p = c .before .before .before .before .before .before .before .before .before .before .before .pre in
+    (p .0, ((p .1 .0 .0, (p .1 .0 .1, search needs)), served-zeros 13312 3840 _ refl refl))
+
+enum-known-sizes : tie.Need-enum-known-sizes
+enum-known-sizes c = search needs
 
 slice-aggregate-write-tables : tie.Need-slice-aggregate-write-tables
 slice-aggregate-write-tables c = search needs
 
 write-tables-requires : tie.Need-write-tables-requires
 write-tables-requires c κs =
-    let p = c .before .before .before .before .before .before .before .before .before .before .before .before .before .before .before .before .before .before .before .before .before .before .before .pre in
-    let e = c .before .before .before .before .before .before .before .before .before .before .before .before .before .both-stages .ensures in
-    (both-passed (e .0) (c .before .before .before .before .before .before .n .given .1), (search needs, p .1 .1))
-
-cast-t31 : tie.Need-cast-t31
-cast-t31 c = search needs
+    let told = c .before .before .before .before in
+    let staged = told .before .before .before .before .before .before .before .before .before in
+    let s = staged .before .before .before .before .before .before .before .before .before .before .before .before in
+    let k = both-passed (staged .both-stages .ensures .0) (told .sizes .given .1) .kept in
+    (search needs, ((k .few, k .fewUses), s .pre .1 .1))
 
 enum-known-r : tie.Need-enum-known-r
 enum-known-r c = search needs
@@ -43,7 +51,15 @@ same-length-4 : tie.Need-same-length-4
 same-length-4 c = search needs
 
 returns : tie.Need-returns
-returns c = search needs
+returns c =
+    let stored = c .before .before .before .before in
+    let told = stored .before .before .before .before .before in
+    let staged = told .before .before .before .before .before .before .before .before .before in
+    let a = staged .before .before .before .before .before .before .before .before .before .before .before .before .args in
+    let x = staged .both-stages .ensures in (
+      ended-passed (a .list .now) (a .doc .now) (a .calls .now) (a .wires .now) (both-passed (x .0) (told .sizes .given .1)) (stored .write-tables .ensures),
+      x .1,
+    )
 
 same-length-5 : tie.Need-same-length-5
 same-length-5 c = search needs
@@ -53,21 +69,24 @@ same-length-6 c = search needs
 
 returns-2 : tie.Need-returns-2
 returns-2 c =
-    let s = c .before .before .before .before .before .before .before .before .before .before .before .before .before .before .before .before .before .before in
-    let x = c .before .before .before .before .before .before .before .before .both-stages in
-    let stopped = both-stopped (s .args .list .now) (s .args .doc .now) _ _ _ (x .result) (x .ensures .0) (c .before .r .given .1) in
-    (ended-stopped (s .args .list .now) (s .args .doc .now) (s .args .calls .now) (s .args .wires .now) stopped, x .ensures .1)
+    let told = c .before in
+    let staged = told .before .before .before .before .before .before .before .before .before in
+    let a = staged .before .before .before .before .before .before .before .before .before .before .before .before .args in
+    let x = staged .both-stages in
+    let stopped = both-stopped (a .list .now) (a .doc .now) _ _ _ _ _ (x .result) (x .ensures .0) (told .r .given .1) in
+    (ended-stopped (a .list .now) (a .doc .now) (a .calls .now) (a .wires .now) stopped, x .ensures .1)
 
 pub both-answer-spec : {M : Type 1} → statement M
 both-answer-spec =
     tie.close
     (tie.spec
     slice-aggregate-both-stages
+    slice-aggregate-both-stages-2
+    slice-aggregate-both-stages-3
     both-stages-requires
-    enum-known-n
+    enum-known-sizes
     slice-aggregate-write-tables
     write-tables-requires
-    cast-t31
     enum-known-r
     same-length
     same-length-2

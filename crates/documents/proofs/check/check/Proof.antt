@@ -14,7 +14,8 @@ rooms-serve-requires c κs = search needs
 returns : tie.Need-returns
 returns c =
     let s = c .before .before .before .before .before .before .before .before in
-    refused-room (s .args .list .now) (s .args .doc .now) (s .args .work1 .now) (s .args .work2 .now) (s .args .calls .now) (s .args .wires .now) (sym (c .before .rooms-serve .ensures) ∙ not-true _ (c .if1 .taken)) refl
+    refused-room (s .args .list .now) (s .args .doc .now) (s .args .work1 .now) (s .args .work2 .now) (s .args .calls .now) (s .args .wires .now)
+    (sym (c .before .rooms-serve .ensures) ∙ not-true _ (c .if1 .taken)) refl
 
 text-fits-requires : tie.Need-text-fits-requires
 text-fits-requires c κs = search needs
@@ -46,9 +47,16 @@ returns-3 c =
 both-answer-requires : tie.Need-both-answer-requires
 both-answer-requires c κs =
     let s = c .before .before .before .before .before .before .before .before .before .before .before .before .before .before .before .before in
-    let r = room-parts (s .args .list .now) (s .args .doc .now) (s .args .work1 .now) (s .args .work2 .now) (s .args .calls .now) (s .args .wires .now) (sym (c .before .before .before .before .before .before .before .before .before .rooms-serve .ensures) ∙ not-false _ (c .before .before .before .before .before .before .before .before .if1 .left)) in
-    let l = leb-true (length (s .args .list .now)) maxText (sym (c .before .before .before .before .before .before .before .text-fits .ensures) ∙ not-false _ (c .before .before .before .before .before .before .if2 .left)) in
-    let d = leb-true (length (s .args .doc .now)) maxText (sym (c .before .before .before .before .before .text-fits2 .ensures) ∙ not-false _ (c .before .before .before .before .if3 .left)) in
+    let r = room-parts (s .args .list .now) (s .args .doc .now) (s .args .work1 .now) (s .args .work2 .now) (s .args .calls .now) (s .args .wires .now)
+    (sym (c .before .before .before .before .before .before .before .before .before .rooms-serve .ensures)
+    ∙ not-false _ (c .before .before .before .before .before .before .before .before .if1 .left))
+    in
+    let l = leb-true (length (s .args .list .now)) maxText
+    (sym (c .before .before .before .before .before .before .before .text-fits .ensures)
+    ∙ not-false _ (c .before .before .before .before .before .before .if2 .left))
+    in
+    let d = leb-true (length (s .args .doc .now)) maxText
+    (sym (c .before .before .before .before .before .text-fits2 .ensures) ∙ not-false _ (c .before .before .before .before .if3 .left)) in
     ((l, d), ((r .0, r .1), (r .2, r .3)))
 
 clear-requires : tie.Need-clear-requires

@@ -29,8 +29,20 @@ last-of-requires : tie.Need-last-of-requires
 last-of-requires c κs = search needs
 
 returns : tie.Need-returns
-returns c = let f : FoundGraph (c .before .before .before .before .before .args .text .now) (c .before .before .before .before .before .args .table .now) (c .before .before .before .before .before .args .n) (record { inputs = c .before .before .find .result; outputs = c .before .before .find .result + 3; closes = c .before .find2 .result; body = c .before .find2 .result + 2; end = c .last-of .result }) =
+returns c =
+    let f : FoundGraph (c .before .before .before .before .before .args .text .now) (c .before .before .before .before .before .args .table .now)
+    (c .before .before .before .before .before .args .n)
+    (record {
+      first = 5;
+      inputs = c .before .before .find .result;
+      outputs = c .before .before .find .result + 3;
+      closes = c .before .find2 .result;
+      body = c .before .find2 .result + 2;
+      end = c .last-of .result;
+    })
+    =
     record {
+      first-is = refl;
       inputs-from = c .before .before .find .ensures .0;
       inputs-in = c .before .before .find .ensures .1;
       inputs-is = c .before .before .find .ensures .2;
@@ -40,8 +52,11 @@ returns c = let f : FoundGraph (c .before .before .before .before .before .args 
       begins-is = refl;
       body-is = refl;
       end-is = c .last-of .ensures;
-    } in
-    ((c .before .before .find .ensures .1, c .before .find2 .ensures .1, omega (arith, c .last-of .ensures)), λ b d h. graph-is (c .before .before .before .before .before .args .text .now) (c .before .before .before .before .before .args .table .now) (c .before .before .before .before .before .args .n) _ f b d h)
+    } in (
+      (c .before .before .find .ensures .1, c .before .find2 .ensures .1, omega (arith, c .last-of .ensures)),
+      λ b d h. graph-is (c .before .before .before .before .before .args .text .now) (c .before .before .before .before .before .args .table .now)
+          (c .before .before .before .before .before .args .n) _ f b d h,
+    )
 
 pub graph-at-spec : {M : Type 1} → statement M
 graph-at-spec =

@@ -12,7 +12,9 @@ none-requires c κs = search needs
 
 returns : tie.Need-returns
 unfolding meant first
-returns c = λ rs bs p q l m. ap meant (c .none .ensures) ∙ sym (ap first (none-lacked (c .before .before .args .place) rs bs l m (rw (← p, ← q) (c .before .if1 .taken))))
+returns c =
+    λ rs bs p q l m. ap meant (c .none .ensures)
+    ∙ sym (ap first (none-lacked (c .before .before .args .place) rs bs l m (rw (← p, ← q) (c .before .if1 .taken))))
 
 returns-2 : tie.Need-returns-2
 unfolding meant first

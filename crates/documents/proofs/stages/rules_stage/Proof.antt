@@ -1,35 +1,57 @@
 -- A fault stops the stages; without one both texts pass.
+use mathlib.Core.Path.{refl}
 use native.Mathlib.Omega.{arith}
-use Rattle.documents.proofs.BothStages.{part-places, part-open, rules-stop, rules-pass}
+use Rattle.lexis.specs.Sizes.{maxBrackets}
+use Rattle.documents.proofs.BothStages.{list-directed, rules-stop, rules-pass}
 use borrow.Author.Needs.{needs}
 use Rattle.documents.proofs.stages.rules_stage.Statement.{statement}
 use Rattle.documents.proofs.stages.rules_stage.Tie as tie
 
-sub-document-rules : tie.Need-sub-document-rules
-sub-document-rules c = search needs
-
-part-document-rules-start : tie.Need-part-document-rules-start
-part-document-rules-start c = search needs
-
-part-document-rules-end : tie.Need-part-document-rules-end
-part-document-rules-end c = let p = c .before .before .before .before .before .pre in omega (arith, p .0 .few, p .0 .small, p .1 .1)
+slice-aggregate-document-rules : tie.Need-slice-aggregate-document-rules
+slice-aggregate-document-rules c = search needs
 
 document-rules-requires : tie.Need-document-rules-requires
-document-rules-requires c κs = let p = c .before .before .before .before .before .before .pre in (p .0 .table, (p .1 .0 .table, (part-places (p .0), part-open (p .0))))
+document-rules-requires c κs =
+    let p = c .before .before .before .before .before .before .before .before .before .pre in
+    let r = p .1 .0 in (
+      p .0 .table,
+      (
+        r .table,
+        (
+          list-directed (p .0),
+          (
+            record { brackets = maxBrackets; tree = r .document; is = r .parsed },
+            ((r .small, p .1 .1 .0, p .1 .1 .1), record { size = 13312; zeros = refl; room = omega (arith, r .small) }),
+          ),
+        ),
+      ),
+    )
+
+same-length : tie.Need-same-length
+same-length c = search needs
 
 returns : tie.Need-returns
-returns c = let p = c .before .before .before .before .before .before .before .before .before .pre in rules-stop (p .0) (p .1 .0) _ (c .before .before .document-rules .ensures) (c .if1 .taken)
+returns c =
+    let ruled = c .before .before .before .before .before .before in
+    let p = ruled .before .before .before .before .before .before .before .before .before .before .pre in
+    rules-stop (p .0) (p .1 .0) _ (ruled .document-rules .result) (ruled .document-rules .ensures) (c .if1 .taken)
+
+same-length-2 : tie.Need-same-length-2
+same-length-2 c = search needs
 
 returns-2 : tie.Need-returns-2
-returns-2 c = let p = c .before .before .before .before .before .before .before .before .before .pre in rules-pass (p .0) (p .1 .0) _ (c .before .before .document-rules .ensures) (c .if1 .left)
+returns-2 c =
+    let ruled = c .before .before .before .before .before .before in
+    let p = ruled .before .before .before .before .before .before .before .before .before .before .pre in
+    rules-pass (p .0) (p .1 .0) _ (ruled .document-rules .result) (ruled .document-rules .ensures) (c .if1 .left)
 
 pub rules-stage-spec : {M : Type 1} → statement M
 rules-stage-spec =
     tie.close
     (tie.spec
-    sub-document-rules
-    part-document-rules-start
-    part-document-rules-end
+    slice-aggregate-document-rules
     document-rules-requires
+    same-length
     returns
+    same-length-2
     returns-2)

@@ -1,86 +1,109 @@
-use Rattle.lists.proofs.NameScans.{is-name, no-name, those-one, those-none}
-use Rattle.lists.specs.Walks.{beyond, passing, repeating, bothRules}
-use Rattle.lists.specs.Scans.{isName, namesAmong}
-use Rattle.lists.specs.Names.{isAmong, allAssigned}
-use Rattle.lists.specs.Best.{meant}
-use Rattle.lists.specs.Fault.{earlier}
-use Rattle.documents.proofs.NameTallies.{skip-fault, take-fault, skip-count, take-count, two, tested, same-count}
-use Rattle.documents.specs.Walks.{assigning, misfeeds}
-use Rattle.syntax.specs.Table.{toks, tokenAt}
-use Rattle.lexis.specs.Lexer.{Token}
-use Prim.Native.Nat.{_+_, _-_}
-use mathlib.Core.List.{_++_}
-use mathlib.Core.Bool.{Bool}
-use mathlib.Core.Path.{ap, _∙_}
+use mathlib.Core.Path.{sym, subst}
+use mathlib.Core.List.{List, _++_}
+use Prim.Native.Nat.{ℕ, suc, _+_}
+use native.Mathlib.Numerals.{add-one}
 use native.Mathlib.Omega.{arith}
+use Rattle.syntax.specs.Table.{tokenAt}
+use Rattle.index.specs.Indexed.{Walkable}
+use Rattle.index.proofs.Theorems.{walks-wider, walks-kept}
+use Rattle.lists.specs.Scans.{isName}
+use Rattle.lists.proofs.NameScans.{is-name, no-name, those-one, those-none}
+use Rattle.lists.specs.Names.{allAssigned}
+use Rattle.documents.specs.Walks.{assigning}
+use Rattle.documents.specs.Naming.{headed, assigners}
+use Rattle.documents.proofs.NameTurns.{turn-none, assigned-same, assigned-name}
 use borrow.Author.Needs.{needs}
-use Rattle.lists.proofs.best.Best.earlier.Reads as earlier-reads
-use Rattle.lists.proofs.best.Best.fault_if.Reads as fault-if-reads
-use Rattle.lists.proofs.names.seen.Reads as seen-reads
-use Rattle.lists.proofs.word.start_at.Reads as start-at-reads
 use Rattle.documents.proofs.wiring.assigned_at.Statement.{statement}
 use Rattle.documents.proofs.wiring.assigned_at.Tie as tie
-use Rattle.documents.proofs.wiring.assigned_at.Reads as reads
-use Rattle.documents.proofs.wiring.assigned_at.Lts as lts
-use Rattle.documents.proofs.wiring.is_again.Reads as is-again-reads
-use Rattle.documents.proofs.wiring.misfeeds.Reads as misfeeds-reads
-use Rattle.syntax.proofs.symbol.symbol_at.Reads as symbol-at-reads
 
 symbol-at-requires : tie.Need-symbol-at-requires
 symbol-at-requires c κs = search needs
 
 returns : tie.Need-returns
-returns c = (omega (arith, c .before .before .before .before .pre .1 .3), λ b cs h e. (skip-fault (assigning (namesAmong (toks (c .before .before .before .before .args .text .now) (c .before .before .before .before .args .table .now) (c .before .before .before .before .args .inputs) 5)) (c .before .before .before .before .args .external)) (allAssigned cs ++ namesAmong (toks (c .before .before .before .before .args .text .now) (c .before .before .before .before .args .table .now) (c .before .before .before .before .args .i) (c .before .before .before .before .args .at))) (meant (c .before .before .before .before .args .tally .best)) (those-none isName (tokenAt (c .before .before .before .before .args .text .now) (c .before .before .before .before .args .table .now) (c .before .before .before .before .args .i)) (no-name (c .before .before .before .before .args .text .now) (c .before .before .before .before .args .table .now) (c .before .before .before .before .args .n) (c .before .before .before .before .args .i) (c .before .before .before .before .pre .1 .1) (c .before .symbol-at .ensures) (c .if1 .taken))), skip-count (allAssigned cs ++ namesAmong (toks (c .before .before .before .before .args .text .now) (c .before .before .before .before .args .table .now) (c .before .before .before .before .args .i) (c .before .before .before .before .args .at))) e (those-none isName (tokenAt (c .before .before .before .before .args .text .now) (c .before .before .before .before .args .table .now) (c .before .before .before .before .args .i)) (no-name (c .before .before .before .before .args .text .now) (c .before .before .before .before .args .table .now) (c .before .before .before .before .args .n) (c .before .before .before .before .args .i) (c .before .before .before .before .pre .1 .1) (c .before .symbol-at .ensures) (c .if1 .taken)))))
+returns c =
+    let symbol = c .before in
+    let s = symbol .before .before .before .before in
+    let a = s .args in
+    let t = tokenAt (a .text .now) (a .table .now) (a .i) in
+    let none = those-none isName t (no-name (a .text .now) (a .table .now) (a .n) (a .i) (s .pre .1 .0 .0) (symbol .symbol-at .ensures) (c .if1 .taken)) in (
+      (omega arith, omega (arith, s .pre .1 .0 .3)),
+      (
+        walks-wider (omega arith) (s .pre .1 .1),
+        λ ins outs ds ss e m k.
+            turn-none (assigning ins (a .external)) (allAssigned ds ++ ss) (a .tally) k none
+            (assigned-same (a .text .now) (a .table .now) (a .index .now) (a .i) ss _ none (headed ins outs) (assigners ds) (suc (a .k)) m),
+      ),
+    )
 
-add-next : tie.Need-add-next
-add-next c = search needs
+enter-requires : tie.Need-enter-requires
+enter-requires c κs = search needs
 
-start-at-requires : tie.Need-start-at-requires
-start-at-requires c κs = search needs
+word-of-requires : tie.Need-word-of-requires
+word-of-requires c κs = search needs
 
-fault-if-requires : tie.Need-fault-if-requires
-fault-if-requires c κs = search needs
+add-keep-word : tie.Need-add-keep-word
+add-keep-word c = search needs
 
-is-again-requires : tie.Need-is-again-requires
-is-again-requires c κs = search needs
-
-fault-if-requires-2 : tie.Need-fault-if-requires-2
-fault-if-requires-2 c κs = search needs
-
-seen-requires : tie.Need-seen-requires
-seen-requires c κs = search needs
+keep-word-requires : tie.Need-keep-word-requires
+keep-word-requires c κs = search needs
 
 misfeeds-requires : tie.Need-misfeeds-requires
 misfeeds-requires c κs = search needs
 
-fault-if-requires-3 : tie.Need-fault-if-requires-3
-fault-if-requires-3 c κs = search needs
+code-if-requires : tie.Need-code-if-requires
+code-if-requires c κs = search needs
 
-earlier-requires : tie.Need-earlier-requires
-earlier-requires c κs = search needs
+code-if-requires-2 : tie.Need-code-if-requires-2
+code-if-requires-2 c κs = search needs
 
-earlier-requires-2 : tie.Need-earlier-requires-2
-earlier-requires-2 c κs = search needs
+code-if-requires-3 : tie.Need-code-if-requires-3
+code-if-requires-3 c κs = search needs
 
-earlier-requires-3 : tie.Need-earlier-requires-3
-earlier-requires-3 c κs = search needs
+start-at-requires : tie.Need-start-at-requires
+start-at-requires c κs =
+    let s = c .before .before .before .before .before .before .before .before .before .before .before .before .before .before .before .before .before .before .before .before in
+    omega (arith, s .pre .0 .room, s .pre .1 .0 .0)
+
+next-requires : tie.Need-next-requires
+next-requires c κs =
+    let s = c .before .before .before .before .before .before .before .before .before .before .before .before .before .before .before .before .before .before .before .before .before in
+    omega (arith, s .pre .1 .0 .1, s .pre .1 .0 .3)
+
+same-length : tie.Need-same-length
+same-length c = search needs
 
 returns-2 : tie.Need-returns-2
 unfolding tokenAt
-returns-2 c = (
-  omega (arith, c .before .before .before .before .before .before .before .before .before .before .before .before .before .before .before .before .pre .1 .3),
-  λ b cs h e.
-      let t = tokenAt (c .before .before .before .before .before .before .before .before .before .before .before .before .before .before .before .before .args .text .now) (c .before .before .before .before .before .before .before .before .before .before .before .before .before .before .before .before .args .table .now) (c .before .before .before .before .before .before .before .before .before .before .before .before .before .before .before .before .args .i) in
-      let ss = (allAssigned cs ++ namesAmong (toks (c .before .before .before .before .before .before .before .before .before .before .before .before .before .before .before .before .args .text .now) (c .before .before .before .before .before .before .before .before .before .before .before .before .before .before .before .before .args .table .now) (c .before .before .before .before .before .before .before .before .before .before .before .before .before .before .before .before .args .i) (c .before .before .before .before .before .before .before .before .before .before .before .before .before .before .before .before .args .at))) in
-      let feed : Token → Bool = λ t. misfeeds (c .before .before .before .before .before .before .before .before .before .before .before .before .before .before .before .before .args .external) (isAmong (namesAmong (toks (c .before .before .before .before .before .before .before .before .before .before .before .before .before .before .before .before .args .text .now) (c .before .before .before .before .before .before .before .before .before .before .before .before .before .before .before .before .args .table .now) (c .before .before .before .before .before .before .before .before .before .before .before .before .before .before .before .before .args .inputs) 5)) t) in (
-        c .earlier3 .ensures
-            ∙ ap (earlier (meant (c .before .before .before .before .before .before .before .before .before .before .before .before .before .before .before .before .args .tally .best))) (take-fault (assigning (namesAmong (toks (c .before .before .before .before .before .before .before .before .before .before .before .before .before .before .before .before .args .text .now) (c .before .before .before .before .before .before .before .before .before .before .before .before .before .before .before .before .args .table .now) (c .before .before .before .before .before .before .before .before .before .before .before .before .before .before .before .before .args .inputs) 5)) (c .before .before .before .before .before .before .before .before .before .before .before .before .before .before .before .before .args .external)) ss t (those-one isName (tokenAt (c .before .before .before .before .before .before .before .before .before .before .before .before .before .before .before .before .args .text .now) (c .before .before .before .before .before .before .before .before .before .before .before .before .before .before .before .before .args .table .now) (c .before .before .before .before .before .before .before .before .before .before .before .before .before .before .before .before .args .i)) (is-name (c .before .before .before .before .before .before .before .before .before .before .before .before .before .before .before .before .args .text .now) (c .before .before .before .before .before .before .before .before .before .before .before .before .before .before .before .before .args .table .now) (c .before .before .before .before .before .before .before .before .before .before .before .before .before .before .before .before .args .n) (c .before .before .before .before .before .before .before .before .before .before .before .before .before .before .before .before .args .i) (c .before .before .before .before .before .before .before .before .before .before .before .before .before .before .before .before .pre .1 .1) (c .before .before .before .before .before .before .before .before .before .before .before .before .before .symbol-at .ensures) (c .before .before .before .before .before .before .before .before .before .before .before .before .if1 .left)))
-            (two (beyond 1024) (bothRules (repeating 21) (passing 23 feed)) ss t (tested 12 (c .before .before .before .before .before .before .before .before .fault-if .ensures) (same-count 1024 ss e) (c .before .before .before .before .before .before .before .before .before .before .start-at .ensures))
-            (two (repeating 21) (passing 23 feed) ss t (tested 21 (c .before .before .before .before .before .before .fault-if2 .ensures) (c .before .before .before .before .before .before .before .is-again .ensures b cs h) (c .before .before .before .before .before .before .before .before .before .before .start-at .ensures))
-            (tested 23 (c .before .before .before .fault-if3 .ensures) (c .before .before .before .before .misfeeds .ensures ∙ ap (misfeeds (c .before .before .before .before .before .before .before .before .before .before .before .before .before .before .before .before .args .external)) (c .before .before .before .before .before .seen .ensures)) (c .before .before .before .before .before .before .before .before .before .before .start-at .ensures)) (c .before .before .earlier .ensures)) (c .before .earlier2 .ensures))),
-        take-count ss e t (those-one isName (tokenAt (c .before .before .before .before .before .before .before .before .before .before .before .before .before .before .before .before .args .text .now) (c .before .before .before .before .before .before .before .before .before .before .before .before .before .before .before .before .args .table .now) (c .before .before .before .before .before .before .before .before .before .before .before .before .before .before .before .before .args .i)) (is-name (c .before .before .before .before .before .before .before .before .before .before .before .before .before .before .before .before .args .text .now) (c .before .before .before .before .before .before .before .before .before .before .before .before .before .before .before .before .args .table .now) (c .before .before .before .before .before .before .before .before .before .before .before .before .before .before .before .before .args .n) (c .before .before .before .before .before .before .before .before .before .before .before .before .before .before .before .before .args .i) (c .before .before .before .before .before .before .before .before .before .before .before .before .before .before .before .before .pre .1 .1) (c .before .before .before .before .before .before .before .before .before .before .before .before .before .symbol-at .ensures) (c .before .before .before .before .before .before .before .before .before .before .before .before .if1 .left))),
+returns-2 c =
+    let started = c .before in
+    let coded = started .before in
+    let again = coded .before .before in
+    let fed = again .before in
+    let feeds = fed .before in
+    let kept = feeds .before .before .before in
+    let listed = kept .before .before in
+    let entered = listed .before .before .before .before in
+    let named = entered .before .before in
+    let symbol = named .before in
+    let s = symbol .before .before .before .before in
+    let a = s .args in
+    let t = tokenAt (a .text .now) (a .table .now) (a .i) in
+    let one = those-one isName t (is-name (a .text .now) (a .table .now) (a .n) (a .i) (s .pre .1 .0 .0) (symbol .symbol-at .ensures) (named .if1 .left)) in
+    let walks = entered .enter .ensures .1 .0 in
+    let p = entered .enter .result in
+    let stored = kept .keep-word .ensures .1 in (
+      (omega (arith, c .next .ensures .1), omega (arith, s .pre .1 .0 .3, c .next .ensures .1)),
+      (
+        subst (λ (l : List ℕ). Walkable l (a .i + 1) (a .n)) (sym stored) (walks-kept p 1 (a .k + 1) (omega arith) walks),
+        assigned-name (a .text .now) (a .table .now) (a .index .now) _ _ (a .i) p (a .tally) (c .next .result)
+            (coded .code-if3 .result) (started .start-at .result) one (entered .enter .ensures .0) (started .start-at .ensures) (c .next .ensures)
+            (a .k) (a .k + 1) (kept .keep-word .result) (listed .word-of .result) (fed .code-if .result) (again .code-if2 .result) (a .external)
+            (feeds .misfeeds .result)
+            (omega (arith, walks .falling .room, entered .enter .ensures .1 .1, s .pre .1 .0 .0)) (kept .keep-word .ensures .0) (listed .word-of .ensures)
+            (add-one (a .k)) stored
+            (feeds .misfeeds .ensures) (fed .code-if .ensures) (again .code-if2 .ensures) (coded .code-if3 .ensures),
       ),
-)
+    )
 
 pub assigned-at-spec : {M : Type 1} → statement M
 assigned-at-spec =
@@ -88,15 +111,15 @@ assigned-at-spec =
     (tie.spec
     symbol-at-requires
     returns
-    add-next
-    start-at-requires
-    fault-if-requires
-    is-again-requires
-    fault-if-requires-2
-    seen-requires
+    enter-requires
+    word-of-requires
+    add-keep-word
+    keep-word-requires
     misfeeds-requires
-    fault-if-requires-3
-    earlier-requires
-    earlier-requires-2
-    earlier-requires-3
+    code-if-requires
+    code-if-requires-2
+    code-if-requires-3
+    start-at-requires
+    next-requires
+    same-length
     returns-2)

@@ -1,85 +1,122 @@
-use Rattle.lists.specs.Walks.{beyond, passing}
-use Rattle.lists.specs.Names.{isAmong, allAssigned}
-use Rattle.lists.specs.Best.{meant}
-use Rattle.lists.specs.Fault.{earlier}
-use Rattle.documents.proofs.Walking.{here-some, here-none}
-use Rattle.documents.proofs.NameTallies.{skip-fault, take-fault, skip-count, take-count, two, tested, same-count}
-use Rattle.documents.specs.Walks.{consuming}
-use Rattle.syntax.specs.Table.{toks, tokenAt}
-use Rattle.lexis.specs.Lexer.{Token}
-use Prim.Native.Nat.{_+_, _-_}
-use mathlib.Core.Bool.{Bool, not}
-use mathlib.Core.Path.{sym, ap, _∙_}
+use mathlib.Core.Path.{refl, sym, ap, subst, _∙_}
+use mathlib.Core.Bool.{Bool, cond}
+use mathlib.Core.List.{List, _++_}
+use Prim.Native.Nat.{ℕ, suc, _+_}
 use native.Mathlib.Omega.{arith}
+use lib.ListN.{length}
+use borrow.Author.Tests.{not-true, not-false}
+use Rattle.syntax.specs.Table.{tokenAt, toks}
+use Rattle.index.specs.Mapped.{LooksUp}
+use Rattle.lists.specs.Names.{allAssigned}
+use Rattle.documents.specs.Code as Code
+use Rattle.documents.specs.Walks.{consuming}
+use Rattle.documents.specs.Naming.{numbered, assigners}
+use Rattle.documents.proofs.Walking.{here-some, here-none}
+use Rattle.documents.proofs.NameTurns.{turn-none, used-name, no-wires}
+use Rattle.documents.proofs.Recording.{wire-length}
 use borrow.Author.Needs.{needs}
-use Rattle.lists.proofs.best.Best.earlier.Reads as earlier-reads
-use Rattle.lists.proofs.best.Best.fault_if.Reads as fault-if-reads
-use Rattle.lists.proofs.word.start_at.Reads as start-at-reads
 use Rattle.documents.proofs.wiring.used_at.Statement.{statement}
 use Rattle.documents.proofs.wiring.used_at.Tie as tie
-use Rattle.documents.proofs.wiring.used_at.Reads as reads
-use Rattle.documents.proofs.wiring.used_at.Lts as lts
-use Rattle.documents.proofs.wiring.is_unknown.Reads as is-unknown-reads
-use Rattle.documents.proofs.wiring.is_use.Reads as is-use-reads
 
 is-use-requires : tie.Need-is-use-requires
 is-use-requires c κs = search needs
 
-add-next : tie.Need-add-next
-add-next c = search needs
+returns : tie.Need-returns
+returns c =
+    let tested = c .before in
+    let s = tested .before .before .before .before .before in
+    let a = s .args in
+    let none = here-none (tokenAt (a .text .now) (a .table .now) (a .i)) (toks (a .text .now) (a .table .now) (a .to) (a .i + 1))
+    (sym (tested .is-use .ensures) ∙ not-true _ (c .if1 .taken)) in (
+      (omega arith, omega arith),
+      (
+        refl,
+        λ j es ds ls ss e m k. turn-none (consuming (allAssigned ds)) ss (a .tally) k none
+            (no-wires (assigners ds ++ numbered (suc (a .k)) ls) (a .k) (a .records .now) (a .tally .count) none),
+      ),
+    )
 
 start-at-requires : tie.Need-start-at-requires
 start-at-requires c κs = search needs
 
-fault-if-requires : tie.Need-fault-if-requires
-fault-if-requires c κs = search needs
+bytes-at-requires : tie.Need-bytes-at-requires
+bytes-at-requires c κs = search needs
 
-is-unknown-requires : tie.Need-is-unknown-requires
-is-unknown-requires c κs = search needs
+look-up-requires : tie.Need-look-up-requires
+look-up-requires c κs = search needs
 
-fault-if-requires-2 : tie.Need-fault-if-requires-2
-fault-if-requires-2 c κs = search needs
+wired-requires : tie.Need-wired-requires
+wired-requires c κs = search needs
 
-earlier-requires : tie.Need-earlier-requires
-earlier-requires c κs = search needs
+wire-requires : tie.Need-wire-requires
+wire-requires c κs =
+    let started = c .before .before .before .before in
+    let s = started .before .before .before .before .before .before .before in
+    let w = s .pre .0 .within (s .args .i) (omega (arith, s .pre .1 .0 .0, s .pre .1 .0 .1)) in (
+      s .pre .1 .1 .0 .1,
+      (omega (arith, started .start-at .ensures, w .0, w .1, s .pre .1 .1 .0 .0), omega (arith, c .wired .ensures .1, s .pre .1 .0 .3)),
+    )
 
-earlier-requires-2 : tie.Need-earlier-requires-2
-earlier-requires-2 c κs = search needs
+is-unwired-requires : tie.Need-is-unwired-requires
+is-unwired-requires c κs = search needs
 
-returns : tie.Need-returns
-unfolding tokenAt
-returns c = (
-  omega (arith, c .before .before .before .before .before .before .before .before .before .before .before .before .pre .1 .3),
-  λ b cs ss h e.
-      let t = tokenAt (c .before .before .before .before .before .before .before .before .before .before .before .before .args .text .now) (c .before .before .before .before .before .before .before .before .before .before .before .before .args .table .now) (c .before .before .before .before .before .before .before .before .before .before .before .before .args .i) in
-      let known : Token → Bool = λ t. not (isAmong (allAssigned cs) t) in
-      let one = here-some (tokenAt (c .before .before .before .before .before .before .before .before .before .before .before .before .args .text .now) (c .before .before .before .before .before .before .before .before .before .before .before .before .args .table .now) (c .before .before .before .before .before .before .before .before .before .before .before .before .args .i)) (toks (c .before .before .before .before .before .before .before .before .before .before .before .before .args .text .now) (c .before .before .before .before .before .before .before .before .before .before .before .before .args .table .now) (c .before .before .before .before .before .before .before .before .before .before .before .before .args .to) (c .before .before .before .before .before .before .before .before .before .before .before .before .args .i + 1)) (sym (c .before .before .before .before .before .before .before .before .before .is-use .ensures) ∙ c .before .before .before .before .before .before .before .before .if1 .taken) in (
-        c .earlier2 .ensures
-            ∙ ap (earlier (meant (c .before .before .before .before .before .before .before .before .before .before .before .before .args .tally .best))) (take-fault (consuming (allAssigned cs)) ss t one
-            (two (beyond 1024) (passing 22 known) ss t (tested 12 (c .before .before .before .before .fault-if .ensures) (same-count 1024 ss e) (c .before .before .before .before .before .before .start-at .ensures)) (tested 22 (c .before .before .fault-if2 .ensures) (c .before .before .before .is-unknown .ensures b cs h) (c .before .before .before .before .before .before .start-at .ensures)) (c .before .earlier .ensures))),
-        take-count ss e t one,
-      ),
-)
+code-if-requires : tie.Need-code-if-requires
+code-if-requires c κs = search needs
+
+code-if-requires-2 : tie.Need-code-if-requires-2
+code-if-requires-2 c κs = search needs
+
+next-requires : tie.Need-next-requires
+next-requires c κs =
+    let s = c .before .before .before .before .before .before .before .before .before .before .before .before .before .before .before .before .before .before in
+    omega (arith, s .pre .1 .0 .2, s .pre .1 .0 .4)
+
+same-length : tie.Need-same-length
+same-length c = search needs
 
 returns-2 : tie.Need-returns-2
-returns-2 c = (
-  omega (arith, c .before .before .before .before .pre .1 .3),
-  λ b cs ss h e.
-      let none = here-none (tokenAt (c .before .before .before .before .args .text .now) (c .before .before .before .before .args .table .now) (c .before .before .before .before .args .i)) (toks (c .before .before .before .before .args .text .now) (c .before .before .before .before .args .table .now) (c .before .before .before .before .args .to) (c .before .before .before .before .args .i + 1)) (sym (c .before .is-use .ensures) ∙ c .if1 .left) in
-      (skip-fault (consuming (allAssigned cs)) ss (meant (c .before .before .before .before .args .tally .best)) none, skip-count ss e none),
-)
+unfolding tokenAt
+returns-2 c =
+    let coded = c .before in
+    let unwired = coded .before .before in
+    let tested = unwired .before in
+    let stored = tested .before .before .before in
+    let wired = stored .before in
+    let sought = wired .before .before in
+    let read = sought .before in
+    let started = read .before in
+    let is = started .before .before in
+    let s = is .before .before .before .before .before in
+    let a = s .args in
+    let one = here-some (tokenAt (a .text .now) (a .table .now) (a .i)) (toks (a .text .now) (a .table .now) (a .to) (a .i + 1))
+    (sym (is .is-use .ensures) ∙ not-false _ (started .before .if1 .left)) in (
+      (omega (arith, c .next .ensures .1), omega (arith, c .next .ensures .1)),
+      (
+        ap (λ (l : List ℕ). length l) (stored .wire .ensures) ∙ wire-length (a .records .now) (a .tally .count) _,
+        used-name (a .text .now) (a .table .now) (a .index .now) (a .records .now) _ (a .i) (a .k) (a .tally) (c .next .result) (coded .code-if2 .result)
+            (started .start-at .result) (sought .look-up .result) (wired .wired .result) (unwired .code-if .result) one
+            (subst (λ (v : List ℕ). LooksUp (a .text .now) (a .table .now) (a .index .now) v 1 (sought .look-up .result)) (read .bytes-at .ensures)
+            (sought .look-up .ensures))
+            (started .start-at .ensures) (wired .wired .ensures .0) (stored .wire .ensures)
+            (unwired .code-if .ensures ∙ ap (λ (b : Bool). cond b Code.unassignedUse 0) (tested .is-unwired .ensures)) (coded .code-if2 .ensures)
+            (c .next .ensures),
+      ),
+    )
 
 pub used-at-spec : {M : Type 1} → statement M
 used-at-spec =
     tie.close
     (tie.spec
     is-use-requires
-    add-next
-    start-at-requires
-    fault-if-requires
-    is-unknown-requires
-    fault-if-requires-2
-    earlier-requires
-    earlier-requires-2
     returns
+    start-at-requires
+    bytes-at-requires
+    look-up-requires
+    wired-requires
+    wire-requires
+    is-unwired-requires
+    code-if-requires
+    code-if-requires-2
+    next-requires
+    same-length
     returns-2)

@@ -28,7 +28,8 @@ returns-3 : tie.Need-returns-3
 returns-3 c =
     let at-if2 = c .before in
     let start = at-if2 .before .before .before .before in
-    λ e. equal-here (start .args .text .now) (start .args .at) (start .pre .0) _ (start .pre .1) (at-if2 .before .before .if1 .left) (at-if2 .if2 .left) (λ q. eqb-false _ _ (not-true _ e) (c .byte-at .ensures ∙ q))
+    λ e. equal-here (start .args .text .now) (start .args .at) (start .pre .0) _ (start .pre .1) (at-if2 .before .before .if1 .left) (at-if2 .if2 .left)
+    (λ q. eqb-false _ _ (not-true _ e) (c .byte-at .ensures ∙ q))
 
 pub is-mark-spec : {M : Type 1} → statement M
 is-mark-spec =

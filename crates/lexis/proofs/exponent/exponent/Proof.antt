@@ -12,16 +12,25 @@ cast-result : tie.Need-cast-result
 cast-result c = search needs
 
 sub-result : tie.Need-sub-result
-sub-result c = diff-fits _ _ (c .before .args .points) (c .before .args .zeros) (cond-small (c .before .args .minus) _ _ _ zero-le (c .before .pre .0)) (cond-small (c .before .args .minus) _ _ _ (c .before .pre .0) zero-le) (c .before .pre .1 .0) (c .before .pre .1 .1) (c .signed .result) (c .signed .ensures)
+sub-result c =
+    diff-fits _ _ (c .before .args .points) (c .before .args .zeros) (cond-small (c .before .args .minus) _ _ _ zero-le (c .before .pre .0))
+    (cond-small (c .before .args .minus) _ _ _ (c .before .pre .0) zero-le) (c .before .pre .1 .0) (c .before .pre .1 .1) (c .signed .result)
+    (c .signed .ensures)
 
 cast-result-2 : tie.Need-cast-result-2
 cast-result-2 c = search needs
 
 add-result : tie.Need-add-result
-add-result c = sum-fits _ _ (c .before .args .points) (c .before .args .zeros) (cond-small (c .before .args .minus) _ _ _ zero-le (c .before .pre .0)) (cond-small (c .before .args .minus) _ _ _ (c .before .pre .0) zero-le) (c .before .pre .1 .0) (c .before .pre .1 .1) (c .signed .result) (c .signed .ensures)
+add-result c =
+    sum-fits _ _ (c .before .args .points) (c .before .args .zeros) (cond-small (c .before .args .minus) _ _ _ zero-le (c .before .pre .0))
+    (cond-small (c .before .args .minus) _ _ _ (c .before .pre .0) zero-le) (c .before .pre .1 .0) (c .before .pre .1 .1) (c .signed .result)
+    (c .signed .ensures)
 
 returns : tie.Need-returns
-returns c = sum-is _ _ (c .before .args .points) (c .before .args .zeros) (cond-small (c .before .args .minus) _ _ _ zero-le (c .before .pre .0)) (cond-small (c .before .args .minus) _ _ _ (c .before .pre .0) zero-le) (c .before .pre .1 .0) (c .before .pre .1 .1) (c .signed .result) (c .signed .ensures)
+returns c =
+    sum-is _ _ (c .before .args .points) (c .before .args .zeros) (cond-small (c .before .args .minus) _ _ _ zero-le (c .before .pre .0))
+    (cond-small (c .before .args .minus) _ _ _ (c .before .pre .0) zero-le) (c .before .pre .1 .0) (c .before .pre .1 .1) (c .signed .result)
+    (c .signed .ensures)
 
 pub exponent-spec : {M : Type 1} → statement M
 exponent-spec =

@@ -27,7 +27,8 @@ add-next : tie.Need-add-next
 add-next c = search needs
 
 returns-3 : tie.Need-returns-3
-returns-3 c = push-fast _ _ _ (c .before .before .before .if1 .left) (c .before .before .if3 .taken) (c .before .if4 .taken) (c .digit-of .ensures) (search needs)
+returns-3 c =
+    push-fast _ _ _ (c .before .before .before .if1 .left) (c .before .before .if3 .taken) (c .before .if4 .taken) (c .digit-of .ensures) (search needs)
 
 add-scaled : tie.Need-add-scaled
 add-scaled c = search needs
@@ -46,7 +47,8 @@ capped-requires c κs = search needs
 
 returns-4 : tie.Need-returns-4
 unfolding push
-returns-4 c = rw (ne-eqb _ 48 (c .before .before .before .before .if1 .left), c .capped .ensures, c .before .before .scaled .ensures, c .before .digit-of2 .ensures)
+returns-4 c =
+    rw (ne-eqb _ 48 (c .before .before .before .before .if1 .left), c .capped .ensures, c .before .before .scaled .ensures, c .before .digit-of2 .ensures)
 
 pub pushed-spec : {M : Type 1} → statement M
 pushed-spec =

@@ -19,7 +19,8 @@ is-e-requires c κs = search needs
 returns : tie.Need-returns
 returns c =
     let start = c .before .before .before .before in
-    exp-none (start .args .text .now) (start .args .at) (ap isE (sym (c .before .before .byte-at .ensures)) ∙ sym (c .before .is-e .ensures) ∙ not-true _ (c .if1 .taken))
+    exp-none (start .args .text .now) (start .args .at)
+    (ap isE (sym (c .before .before .byte-at .ensures)) ∙ sym (c .before .is-e .ensures) ∙ not-true _ (c .if1 .taken))
 
 add-sign-len : tie.Need-add-sign-len
 add-sign-len c = search needs
@@ -46,7 +47,8 @@ returns-2 c =
     let at-is-e = at-if1 .before in
     let at-byte-at = at-is-e .before in
     let start = at-byte-at .before .before in
-    exp-bare (start .args .text .now) (start .args .at) _ _ (c .before .before .sign-len .ensures) (c .before .run-end .ensures) (ap isE (sym (at-byte-at .byte-at .ensures)) ∙ sym (at-is-e .is-e .ensures) ∙ not-false _ (at-if1 .if1 .left)) (c .if2 .taken)
+    exp-bare (start .args .text .now) (start .args .at) _ _ (c .before .before .sign-len .ensures) (c .before .run-end .ensures)
+    (ap isE (sym (at-byte-at .byte-at .ensures)) ∙ sym (at-is-e .is-e .ensures) ∙ not-false _ (at-if1 .if1 .left)) (c .if2 .taken)
 
 sub-result : tie.Need-sub-result
 sub-result c = search needs
@@ -57,7 +59,8 @@ returns-3 c =
     let at-is-e = at-if1 .before in
     let at-byte-at = at-is-e .before in
     let start = at-byte-at .before .before in
-    exp-some (start .args .text .now) (start .args .at) _ _ (c .before .before .sign-len .ensures) (c .before .run-end .ensures) (ap isE (sym (at-byte-at .byte-at .ensures)) ∙ sym (at-is-e .is-e .ensures) ∙ not-false _ (at-if1 .if1 .left)) (c .if2 .left)
+    exp-some (start .args .text .now) (start .args .at) _ _ (c .before .before .sign-len .ensures) (c .before .run-end .ensures)
+    (ap isE (sym (at-byte-at .byte-at .ensures)) ∙ sym (at-is-e .is-e .ensures) ∙ not-false _ (at-if1 .if1 .left)) (c .if2 .left)
 
 pub exp-len-spec : {M : Type 1} → statement M
 exp-len-spec =

@@ -21,7 +21,8 @@ returns-2 : tie.Need-returns-2
 returns-2 c =
     let at-byte-at = c .before .before .before in
     let start = at-byte-at .before .before in
-    frac-bare (start .args .text .now) (start .args .at) _ (sym (at-byte-at .byte-at .ensures) ∙ c .before .before .if1 .left) (c .before .run-end .ensures) (c .if2 .taken)
+    frac-bare (start .args .text .now) (start .args .at) _ (sym (at-byte-at .byte-at .ensures) ∙ c .before .before .if1 .left) (c .before .run-end .ensures)
+    (c .if2 .taken)
 
 sub-result : tie.Need-sub-result
 sub-result c = search needs
@@ -30,7 +31,8 @@ returns-3 : tie.Need-returns-3
 returns-3 c =
     let at-byte-at = c .before .before .before in
     let start = at-byte-at .before .before in
-    frac-some (start .args .text .now) (start .args .at) _ (sym (at-byte-at .byte-at .ensures) ∙ c .before .before .if1 .left) (c .before .run-end .ensures) (c .if2 .left)
+    frac-some (start .args .text .now) (start .args .at) _ (sym (at-byte-at .byte-at .ensures) ∙ c .before .before .if1 .left) (c .before .run-end .ensures)
+    (c .if2 .left)
 
 pub frac-len-spec : {M : Type 1} → statement M
 frac-len-spec =

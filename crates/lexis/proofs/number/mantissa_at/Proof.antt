@@ -26,7 +26,9 @@ sub-pushed-all c = search needs
 pushed-all-requires-2 : tie.Need-pushed-all-requires-2
 pushed-all-requires-2 c κs =
     let start = c .before .before .before in
-    let bound = mantissa-bounded (c .before .pushed-all .result) (start .args .p .whole) (drop (start .args .at) (start .args .text .now)) (c .before .pushed-all .ensures) (omega arith) in (omega arith, (omega arith, (bound .capped, bound .few)))
+    let bound = mantissa-bounded (c .before .pushed-all .result) (start .args .p .whole) (drop (start .args .at) (start .args .text .now))
+    (c .before .pushed-all .ensures) (omega arith) in
+    (omega arith, (omega arith, (bound .capped, bound .few)))
 
 returns-2 : tie.Need-returns-2
 returns-2 c =

@@ -84,8 +84,13 @@ in-range-requires c κs =
     let start = at-shape-at .before .before in
     let place = start .args .at in
     let text = start .args .text .now in
-    let good = is-good text place _ _ (at-shape-at .shape-at .ensures) (at-p .p .given .1) in
-    (start .pre .0, (part-short text place _ (leb-true _ maxNumber (sym (c .before .before .number-fits .ensures) ∙ not-false _ (c .before .if1 .left))), parts-own text place _ (good .is)))
+    let good = is-good text place _ _ (at-shape-at .shape-at .ensures) (at-p .p .given .1) in (
+      start .pre .0,
+      (
+        part-short text place _ (leb-true _ maxNumber (sym (c .before .before .number-fits .ensures) ∙ not-false _ (c .before .if1 .left))),
+        parts-own text place _ (good .is),
+      ),
+    )
 
 returns-2 : tie.Need-returns-2
 returns-2 c =
@@ -97,7 +102,8 @@ returns-2 c =
     let place = start .args .at in
     let text = start .args .text .now in
     let good = is-good text place _ _ (at-shape-at .shape-at .ensures) (at-p .p .given .1) in
-    number-out text place _ (good .is) (good .free) (sym (at-number-fits .number-fits .ensures) ∙ not-false _ (at-if1 .if1 .left)) (range-own text place _ (good .is) _ _ (c .before .in-range .ensures) (not-true _ (c .if2 .taken)))
+    number-out text place _ (good .is) (good .free) (sym (at-number-fits .number-fits .ensures) ∙ not-false _ (at-if1 .if1 .left))
+    (range-own text place _ (good .is) _ _ (c .before .in-range .ensures) (not-true _ (c .if2 .taken)))
 
 returns-3 : tie.Need-returns-3
 returns-3 c =
@@ -110,7 +116,8 @@ returns-3 c =
     let place = start .args .at in
     let text = start .args .text .now in
     let good = is-good text place _ _ (at-shape-at .shape-at .ensures) (at-p .p .given .1) in
-    number-whole text place _ (good .is) (good .free) (sym (at-number-fits .number-fits .ensures) ∙ not-false _ (at-if1 .if1 .left)) (range-own text place _ (good .is) _ _ (at-in-range .in-range .ensures) (not-false _ (c .before .before .if2 .left))) (c .if3 .taken)
+    number-whole text place _ (good .is) (good .free) (sym (at-number-fits .number-fits .ensures) ∙ not-false _ (at-if1 .if1 .left))
+    (range-own text place _ (good .is) _ _ (at-in-range .in-range .ensures) (not-false _ (c .before .before .if2 .left))) (c .if3 .taken)
 
 returns-4 : tie.Need-returns-4
 returns-4 c =
@@ -128,7 +135,8 @@ returns-5 c =
     let place = start .args .at in
     let text = start .args .text .now in
     let good = is-good text place _ _ (at-shape-at .shape-at .ensures) (at-p .p .given .1) in
-    number-real text place _ (good .is) (good .free) (sym (at-number-fits .number-fits .ensures) ∙ not-false _ (at-if1 .if1 .left)) (range-own text place _ (good .is) _ _ (at-in-range .in-range .ensures) (not-false _ (c .before .before .if2 .left))) (c .if3 .left)
+    number-real text place _ (good .is) (good .free) (sym (at-number-fits .number-fits .ensures) ∙ not-false _ (at-if1 .if1 .left))
+    (range-own text place _ (good .is) _ _ (at-in-range .in-range .ensures) (not-false _ (c .before .before .if2 .left))) (c .if3 .left)
 
 pub number-at-spec : {M : Type 1} → statement M
 number-at-spec =

@@ -15,7 +15,12 @@ frac-len-requires : tie.Need-frac-len-requires
 frac-len-requires c κs = (c .before .before .pre, run-in isDigit (c .before .before .args .w .now) 0 _ (c .run-end .ensures) zero-le)
 
 add-exp-len : tie.Need-add-exp-len
-add-exp-len c = omega (arith, frac-in (c .before .before .before .args .w .now) _ _ (c .frac-len .ensures) (run-in isDigit (c .before .before .before .args .w .now) 0 _ (c .before .run-end .ensures) zero-le))
+add-exp-len c =
+    omega (
+      arith,
+      frac-in (c .before .before .before .args .w .now) _ _ (c .frac-len .ensures)
+          (run-in isDigit (c .before .before .before .args .w .now) 0 _ (c .before .run-end .ensures) zero-le),
+    )
 
 exp-len-requires : tie.Need-exp-len-requires
 exp-len-requires c κs =
@@ -24,7 +29,9 @@ exp-len-requires c κs =
     (start .pre, frac-in w _ _ (c .frac-len .ensures) (run-in isDigit w 0 _ (c .before .run-end .ensures) zero-le))
 
 returns : tie.Need-returns
-returns c = parts-front (c .before .before .before .before .args .w .now) _ _ _ (c .before .before .run-end .ensures) (c .before .frac-len .ensures) (c .exp-len .ensures)
+returns c =
+    parts-front (c .before .before .before .before .args .w .now) _ _ _ (c .before .before .run-end .ensures) (c .before .frac-len .ensures)
+    (c .exp-len .ensures)
 
 pub parts-of-spec : {M : Type 1} → statement M
 parts-of-spec =

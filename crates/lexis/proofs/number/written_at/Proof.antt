@@ -41,13 +41,15 @@ capped-value-requires : tie.Need-capped-value-requires
 capped-value-requires c κs =
     let at-if1 = c .before .before .before in
     let start = at-if1 .before .before in
-    digits-in (start .args .text .now) (start .args .at) (start .args .p) _ _ (at-if1 .if1 .left) (start .pre .1) (c .before .sign-len .ensures) (c .run-end .ensures)
+    digits-in (start .args .text .now) (start .args .at) (start .args .p) _ _ (at-if1 .if1 .left) (start .pre .1) (c .before .sign-len .ensures)
+    (c .run-end .ensures)
 
 returns-2 : tie.Need-returns-2
 returns-2 c =
     let at-if1 = c .before .before .before .before in
     let start = at-if1 .before .before in
-    written-some (start .args .text .now) (start .args .at) (start .args .p) _ _ _ _ (c .before .before .sign-len .ensures) (c .before .run-end .ensures) (at-if1 .if1 .left) refl (c .capped-value .ensures)
+    written-some (start .args .text .now) (start .args .at) (start .args .p) _ _ _ _ (c .before .before .sign-len .ensures) (c .before .run-end .ensures)
+    (at-if1 .if1 .left) refl (c .capped-value .ensures)
 
 pub written-at-spec : {M : Type 1} → statement M
 written-at-spec =

@@ -33,7 +33,10 @@ returns : tie.Need-returns Inv-loop μ-loop
 returns c =
     let at-loop = c .before .before .before .before in
     let start = at-loop .before .before in
-    sym (at-loop .loop .inv .1 ∙ span-stop (passes (start .args .run)) (start .args .text .now) (at-loop .loop .i) (omega arith) (sym (c .before .belongs .ensures) ∙ not-true _ (c .if1 .taken)))
+    sym
+    (at-loop .loop .inv .1
+    ∙ span-stop (passes (start .args .run)) (start .args .text .now) (at-loop .loop .i) (omega arith)
+    (sym (c .before .belongs .ensures) ∙ not-true _ (c .if1 .taken)))
 
 add-second : tie.Need-add-second Inv-loop μ-loop
 add-second c = search needs

@@ -32,7 +32,8 @@ unfolding leading retain terminals symbolIn
 returns c =
     let at-match = c .before .before .before in
     let start = at-match .before .before .before in
-    sym (symbol-by (start .args .w .now) _ 115 (at-match .before .byte-at .ensures) (at-match .match .keys3) ∙ rw (sym (c .before .same .ensures) ∙ c .if1 .taken))
+    sym
+    (symbol-by (start .args .w .now) _ 115 (at-match .before .byte-at .ensures) (at-match .match .keys3) ∙ rw (sym (c .before .same .ensures) ∙ c .if1 .taken))
 
 slice-aggregate-symbol-if-3 : tie.Need-slice-aggregate-symbol-if-3
 slice-aggregate-symbol-if-3 c = search needs
@@ -84,7 +85,10 @@ returns-4 c =
     let at-if = c .before .before in
     let at-match = at-if .before .before .before in
     let start = at-match .before .before .before in
-    c .symbol-if3 .ensures ∙ sym (symbol-by (start .args .w .now) _ 115 (at-match .before .byte-at .ensures) (at-match .match .keys3) ∙ rw (sym (at-if .before .same .ensures) ∙ at-if .if1 .left))
+    c .symbol-if3 .ensures
+    ∙ sym
+    (symbol-by (start .args .w .now) _ 115 (at-match .before .byte-at .ensures) (at-match .match .keys3)
+    ∙ rw (sym (at-if .before .same .ensures) ∙ at-if .if1 .left))
 
 returns-5 : tie.Need-returns-5
 unfolding leading retain terminals symbolIn
@@ -117,7 +121,8 @@ returns-8 c =
 returns-9 : tie.Need-returns-9
 returns-9 c =
     let r = c .match .rest in
-    symbol-none _ _ (c .before .byte-at .ensures) (r .0 .0 .0 .0 .0 .0 .1) (r .0 .0 .0 .0 .0 .1) (r .0 .0 .0 .0 .1) (r .0 .0 .0 .1) (r .0 .0 .1) (r .0 .1) (r .1)
+    symbol-none _ _ (c .before .byte-at .ensures) (r .0 .0 .0 .0 .0 .0 .1) (r .0 .0 .0 .0 .0 .1) (r .0 .0 .0 .0 .1) (r .0 .0 .0 .1) (r .0 .0 .1) (r .0 .1)
+    (r .1)
 
 pub keyword-spec : {M : Type 1} → statement M
 keyword-spec =

@@ -36,7 +36,10 @@ returns-6 c =
     mark-single _ _ _ (start .pre) (at-if4 .if4 .taken) (rw (c .before .if7 .taken)) (rw (ne-eqb _ 45 (c .if8 .left)))
 
 returns-7 : tie.Need-returns-7
-returns-7 c = mark-single _ _ _ (c .before .before .before .before .pre) (c .before .before .if4 .taken) (⊎-elim (λ w. rw (eq-eqb _ 61 (w .0 .taken), ← w .1 .ensures, w .2 .left)) (λ w. rw (ne-eqb _ 61 (w .left))) (c .before .if5 .came)) (rw (ne-eqb _ 62 (c .if7 .left), and-false))
+returns-7 c =
+    mark-single _ _ _ (c .before .before .before .before .pre) (c .before .before .if4 .taken)
+    (⊎-elim (λ w. rw (eq-eqb _ 61 (w .0 .taken), ← w .1 .ensures, w .2 .left)) (λ w. rw (ne-eqb _ 61 (w .left))) (c .before .if5 .came))
+    (rw (ne-eqb _ 62 (c .if7 .left), and-false))
 
 returns-8 : tie.Need-returns-8
 returns-8 c = mark-double _ _ _ (c .before .before .before .before .pre) (c .before .if9 .taken) (c .if10 .taken)

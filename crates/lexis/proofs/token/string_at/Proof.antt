@@ -30,7 +30,9 @@ string-fits-requires : tie.Need-string-fits-requires
 string-fits-requires c κs = search needs
 
 returns-2 : tie.Need-returns-2
-returns-2 c = string-long _ _ _ _ (c .before .before .before .before .run-end .ensures) (sym (c .before .before .before .byte-at .ensures) ∙ c .before .before .if1 .left) (sym (c .before .string-fits .ensures) ∙ not-true _ (c .if2 .taken))
+returns-2 c =
+    string-long _ _ _ _ (c .before .before .before .before .run-end .ensures) (sym (c .before .before .before .byte-at .ensures) ∙ c .before .before .if1 .left)
+    (sym (c .before .string-fits .ensures) ∙ not-true _ (c .if2 .taken))
 
 add-t13 : tie.Need-add-t13
 add-t13 c =
@@ -39,7 +41,9 @@ add-t13 c =
     omega (arith, at-run-end .run-end .ensures, run-in _ _ _ _ (at-run-end .run-end .ensures) (rw add-one (start .pre .1)))
 
 returns-3 : tie.Need-returns-3
-returns-3 c = string-good _ _ _ _ (c .before .before .before .before .run-end .ensures) (sym (c .before .before .before .byte-at .ensures) ∙ c .before .before .if1 .left) (sym (c .before .string-fits .ensures) ∙ not-false _ (c .if2 .left))
+returns-3 c =
+    string-good _ _ _ _ (c .before .before .before .before .run-end .ensures) (sym (c .before .before .before .byte-at .ensures) ∙ c .before .before .if1 .left)
+    (sym (c .before .string-fits .ensures) ∙ not-false _ (c .if2 .left))
 
 pub string-at-spec : {M : Type 1} → statement M
 string-at-spec =

@@ -47,7 +47,8 @@ returns-4 c =
     let at-if2 = c .before .before .before in
     let at-if1 = at-if2 .before in
     let start = at-if1 .before .before .before in
-    mark-here (start .args .text .now) (start .args .at) (start .pre .1 .0) _ (start .pre .1 .1) _ (at-if2 .if2 .left) (at-if1 .if1 .left) (c .before .before .if3 .left) (c .mark-of .ensures ∙ ap (markLexeme _) (c .before .byte-at .ensures))
+    mark-here (start .args .text .now) (start .args .at) (start .pre .1 .0) _ (start .pre .1 .1) _ (at-if2 .if2 .left) (at-if1 .if1 .left)
+    (c .before .before .if3 .left) (c .mark-of .ensures ∙ ap (markLexeme _) (c .before .byte-at .ensures))
 
 pub token-at-spec : {M : Type 1} → statement M
 token-at-spec =

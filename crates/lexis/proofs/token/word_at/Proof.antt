@@ -27,13 +27,20 @@ part-kind-of-word-start : tie.Need-part-kind-of-word-start
 part-kind-of-word-start c = search needs
 
 part-kind-of-word-end : tie.Need-part-kind-of-word-end
-part-kind-of-word-end c = omega (arith, c .before .before .long-run-end .ensures, run-in _ _ _ _ (c .before .before .long-run-end .ensures) (le-of-lt (c .before .before .before .before .pre .1)))
+part-kind-of-word-end c =
+    omega (
+      arith,
+      c .before .before .long-run-end .ensures,
+      run-in _ _ _ _ (c .before .before .long-run-end .ensures) (le-of-lt (c .before .before .before .before .pre .1)),
+    )
 
 kind-of-word-requires : tie.Need-kind-of-word-requires
 kind-of-word-requires c κs = search needs
 
 returns-2 : tie.Need-returns-2
-returns-2 c = word-good _ _ _ (c .before .before .before .before .long-run-end .ensures) _ (sym (c .before .before .before .name-fits .ensures) ∙ not-false _ (c .before .before .if1 .left)) (c .kind-of-word .ensures)
+returns-2 c =
+    word-good _ _ _ (c .before .before .before .before .long-run-end .ensures) _
+    (sym (c .before .before .before .name-fits .ensures) ∙ not-false _ (c .before .before .if1 .left)) (c .kind-of-word .ensures)
 
 pub word-at-spec : {M : Type 1} → statement M
 word-at-spec =

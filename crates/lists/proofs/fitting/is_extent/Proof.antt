@@ -1,75 +1,19 @@
--- The number that all digits spell is the one that those from i on spell after v, and v is within the limit.
-use mathlib.Core.Path.{_≡_, refl, ap, _∙_}
-use Prim.Native.Nat.{ℕ, _+_, _-_, _*_, _≤_}
 use native.Mathlib.Omega.{arith}
-use lib.ListN.{length, drop, getD}
+use Rattle.lists.proofs.Extents.{few-bytes}
 use borrow.Author.Needs.{needs}
-use Rattle.lexis.specs.Sizes.{maxExtent}
-use Rattle.lexis.specs.Number.{valueFrom}
-use Rattle.lists.proofs.Extents.{value-step, too-large, all-read}
 use Rattle.lists.proofs.fitting.is_extent.Statement.{statement}
 use Rattle.lists.proofs.fitting.is_extent.Tie as tie
 
-abbrev Inv-loop : tie.InvT-loop
-Inv-loop w v₀ i₀ v i = (v ≤ maxExtent) × (valueFrom 0 w ≡ valueFrom v (drop i w))
-
-abbrev μ-loop : tie.MeasureT-loop
-μ-loop w v₀ i₀ v i = length w - i
-
-loop-holds : tie.Need-loop-holds Inv-loop μ-loop
-loop-holds c = (omega arith, refl)
-
-mul-v : tie.Need-mul-v Inv-loop μ-loop
-mul-v c = search needs
-
-shared-slice-read-digit : tie.Need-shared-slice-read-digit Inv-loop μ-loop
-shared-slice-read-digit c = search needs
-
-digit-requires : tie.Need-digit-requires Inv-loop μ-loop
-digit-requires c κs = search needs
-
-add-v : tie.Need-add-v Inv-loop μ-loop
-add-v c = search needs
-
-returns : tie.Need-returns Inv-loop μ-loop
+returns : tie.Need-returns
 returns c =
-    let s = c .before .before .before .before .before .before in
-    let l = c .before .before .before .before .loop in
-    let v : c .before .before .before .before .loop .v * 10 + c .before .digit .result ≡ c .before .before .before .before .loop .v * 10 + (getD (s .args .w .now) (l .i) 0 - 48) = omega (arith, c .before .digit .ensures .1) in
-    rw (l .inv .1, value-step (s .args .w .now) (l .i) (l .v) (c .before .before .before .loop-test .taken)) (too-large _ (drop (l .i + 1) (s .args .w .now)) (omega (arith, v, c .if1 .taken)))
+    let w = c .before .before .args .w .now in
+    few-bytes w (λ i. let q = c .before .shared-slice-known .given i in omega (arith, q)) (c .if1 .taken)
 
-add-i : tie.Need-add-i Inv-loop μ-loop
-add-i c = search needs
+is-small-requires : tie.Need-is-small-requires
+is-small-requires c κs = search needs
 
-loop-less : tie.Need-loop-less Inv-loop μ-loop
-loop-less c = search needs
-
-loop-again : tie.Need-loop-again Inv-loop μ-loop
-loop-again c =
-    let s = c .before .before .before .before .before .before in
-    let l = c .before .before .before .before .loop in
-    let v : c .before .before .before .before .loop .v * 10 + (getD (s .args .w .now) (l .i) 0 - 48) ≡ c .before .before .before .before .loop .v * 10 + c .before .digit .result = omega (arith, c .before .digit .ensures .1) in
-    (omega (arith, c .if1 .left), l .inv .1 ∙ (value-step (s .args .w .now) (l .i) (l .v) (c .before .before .before .loop-test .taken) ∙ ap (λ (k : ℕ). valueFrom k (drop (l .i + 1) (s .args .w .now))) v))
-
-returns-2 : tie.Need-returns-2 Inv-loop μ-loop
-returns-2 c =
-    let s = c .before .before .before in
-    let l = c .before .loop in
-    rw (l .inv .1) (all-read (s .args .w .now) (l .i) (l .v) (c .loop-test .left) (l .inv .0))
+returns-2 : tie.Need-returns-2
+returns-2 c = search needs
 
 pub is-extent-spec : {M : Type 1} → statement M
-is-extent-spec =
-    tie.close
-    (tie.spec
-    Inv-loop
-    μ-loop
-    loop-holds
-    mul-v
-    shared-slice-read-digit
-    digit-requires
-    add-v
-    returns
-    add-i
-    loop-less
-    loop-again
-    returns-2)
+is-extent-spec = tie.close (tie.spec returns is-small-requires returns-2)

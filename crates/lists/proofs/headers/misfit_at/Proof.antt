@@ -1,12 +1,10 @@
 use Rattle.lists.specs.Best.{meant}
 use Rattle.lists.proofs.Defaults.{place-in}
 use native.Mathlib.Omega.{arith}
-use mathlib.Core.Path.{_≡_, refl, sym, ap, ap₂, _∙_}
+use mathlib.Core.Path.{refl}
 use borrow.Author.Needs.{needs}
 use Rattle.lists.proofs.headers.misfit_at.Statement.{statement}
 use Rattle.lists.proofs.headers.misfit_at.Tie as tie
-use Rattle.lists.proofs.headers.misfit_at.Reads as reads
-use Rattle.lists.proofs.headers.misfit_at.Lts as lts
 use Rattle.syntax.proofs.symbol.place_at.Reads as place-at-reads
 
 place-at-requires : tie.Need-place-at-requires

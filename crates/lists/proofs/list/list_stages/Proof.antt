@@ -1,16 +1,16 @@
 -- Bytes and syntax, then the rules.
-use mathlib.Core.Path.{refl, _∙_}
 use lib.ListN.{length}
-use Rattle.lexis.specs.Lexer.{lex}
 use Rattle.syntax.proofs.Reading.{room-of}
-use Rattle.lists.proofs.ListStages.{read-list, read-stops, written-length}
+use Rattle.lists.proofs.ListStages.{read-list, read-stops, list-few, served-less}
 use native.Mathlib.Omega.{arith}
 use borrow.Author.Needs.{needs}
 use Rattle.lists.proofs.list.list_stages.Statement.{statement}
 use Rattle.lists.proofs.list.list_stages.Tie as tie
 
 read-requires : tie.Need-read-requires
-read-requires c κs = let p = c .before .before .before .before .pre in (p .0, (p .1 .0, p .1 .1 .0))
+read-requires c κs =
+    let s = c .before .before .before .before .before in
+    let p = s .pre in (p .0, (p .1 .0 .0, p .1 .0 .1))
 
 enum-known-n : tie.Need-enum-known-n
 enum-known-n c = search needs
@@ -20,11 +20,14 @@ cast-rules-stage c = search needs
 
 rules-stage-requires : tie.Need-rules-stage-requires
 rules-stage-requires c κs =
-    let s = c .before .before .before .before .before .before .before .before .before .before .before .before in
-    let e = c .before .before .before .before .before .before .before .read .ensures in
-    let g = c .before .before .before .n .given .1 in
+    let after-n = c .before .before .before .before in
+    let after-read = after-n .before .before .before .before in
+    let s = after-read .before .before .before .before .before .before in
+    let e = after-read .read .ensures in
+    let g = after-n .n .given .1 in
     let r = room-of (length (s .args .work .now)) (e .1 .1) g in
-    (read-list (s .args .text .now) (s .args .work .now) _ _ (r .0) (s .pre .1 .1 .0) (e .0) g (e .1 .0) (e .1 .1), (s .pre .1 .0, (r .0, s .pre .1 .1 .1)))
+    let l = read-list (s .args .text .now) (s .args .work .now) _ _ (r .0) (s .pre .1 .0 .1) (e .0) g (e .1 .0) (e .1 .1) in
+    (l, ((s .pre .1 .0 .0, r .0), served-less (omega (arith, list-few l, r .0)) (s .pre .1 .1)))
 
 enum-known-code : tie.Need-enum-known-code
 enum-known-code c = search needs
@@ -35,21 +38,20 @@ same-length c = search needs
 same-length-2 : tie.Need-same-length-2
 same-length-2 c = search needs
 
-returns : tie.Need-returns
-returns c =
-    let s = c .before .before .before .before .before .before .before .before .before .before .before .before .before .before .before in
-    let e = c .before .before .before .before .before .before .before .before .before .before .read .ensures in
-    let r = c .before .before .rules-stage .ensures in
-    (r .0, (written-length (lex (s .args .text .now)) (s .args .work .now) _ (e .1 .0), r .1))
-
 same-length-3 : tie.Need-same-length-3
 same-length-3 c = search needs
 
+returns : tie.Need-returns
+returns c = c .before .before .before .before .rules-stage .ensures
+
+same-length-4 : tie.Need-same-length-4
+same-length-4 c = search needs
+
 returns-2 : tie.Need-returns-2
 returns-2 c =
-    let s = c .before .before .before .before .before .before .before .before .before .before in
-    let e = c .before .before .before .before .before .read .ensures in
-    (read-stops (s .args .text .now) (e .0) (c .before .code .given .1), (written-length (lex (s .args .text .now)) (s .args .work .now) _ (e .1 .0), refl))
+    let after-read = c .before .before .before .before .before in
+    let s = after-read .before .before .before .before .before .before in
+    read-stops (s .args .text .now) (after-read .read .ensures .0) (c .before .code .given .1)
 
 pub list-stages-spec : {M : Type 1} → statement M
 list-stages-spec =
@@ -62,6 +64,7 @@ list-stages-spec =
     enum-known-code
     same-length
     same-length-2
-    returns
     same-length-3
+    returns
+    same-length-4
     returns-2)

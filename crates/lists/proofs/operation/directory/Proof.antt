@@ -13,7 +13,8 @@ abbrev μ-loop : tie.MeasureT-loop
 μ-loop text table n names₀ at₀ k₀ names at k = n - at
 
 loop-holds : tie.Need-loop-holds Inv-loop μ-loop
-loop-holds c = let s = c .before .before .before in (omega arith, (omega arith, walk-start (s .args .text .now) (s .args .table .now) (s .args .names .now) (s .args .n)))
+loop-holds c =
+    let s = c .before .before .before in (omega arith, (omega arith, walk-start (s .args .text .now) (s .args .table .now) (s .args .names .now) (s .args .n)))
 
 add-names : tie.Need-add-names Inv-loop μ-loop
 add-names c = search needs
@@ -28,7 +29,14 @@ slice-write-names : tie.Need-slice-write-names Inv-loop μ-loop
 slice-write-names c =
     let s = c .before .before .before .before .before in
     let l = c .before .loop in
-    omega (arith, s .pre .1 .1 .0, s .pre .1 .1 .1, l .inv .0, c .loop-test .taken, walk-length (s .args .text .now) (s .args .table .now) (s .args .names .now) (s .args .n) (l .inv .1 .1))
+    omega (
+      arith,
+      s .pre .1 .1 .0,
+      s .pre .1 .1 .1,
+      l .inv .0,
+      c .loop-test .taken,
+      walk-length (s .args .text .now) (s .args .table .now) (s .args .names .now) (s .args .n) (l .inv .1 .1),
+    )
 
 add-k : tie.Need-add-k Inv-loop μ-loop
 add-k c = let s = c .before .before .before .before .before in let t = c .loop-test .taken in omega (arith, s .pre .1 .1 .0, c .before .loop .inv .0)
@@ -52,7 +60,9 @@ loop-again c =
     (omega (arith, i .0, r .0 .0), (r .0 .1, walk-next (s .args .text .now) (s .args .table .now) (s .args .names .now) (s .args .n) t w (r .1 .1) (i .1 .1)))
 
 same-length : tie.Need-same-length Inv-loop μ-loop
-same-length c = let s = c .before .before .before .before .before in walk-length (s .args .text .now) (s .args .table .now) (s .args .names .now) (s .args .n) (c .before .loop .inv .1 .1)
+same-length c =
+    let s = c .before .before .before .before .before in
+    walk-length (s .args .text .now) (s .args .table .now) (s .args .names .now) (s .args .n) (c .before .loop .inv .1 .1)
 
 returns : tie.Need-returns Inv-loop μ-loop
 returns c =

@@ -31,7 +31,8 @@ returns c =
     let h = c .before .before .loop-test .taken in
     let low = l .inv .low in
     let high = l .inv .high in
-    let stop = scan-at (a .text .now) (a .table .now) (a .n) (a .at) (a .s) (l .i) (l .inv) h (sees (a .text .now) (a .table .now) (a .n) (l .i) (a .s) h (c .before .symbol-at .ensures) (c .if1 .taken)) in
+    let stop = scan-at (a .text .now) (a .table .now) (a .n) (a .at) (a .s) (l .i) (l .inv) h
+    (sees (a .text .now) (a .table .now) (a .n) (l .i) (a .s) h (c .before .symbol-at .ensures) (c .if1 .taken)) in
     ((low, high), (stop .before, stop .after))
 
 add-i : tie.Need-add-i Inv-loop μ-loop
@@ -45,7 +46,8 @@ loop-again c =
     let a = c .before .before .before .before .before .before .args in
     let l = c .before .before .before .loop in
     let h = c .before .before .loop-test .taken in
-    scan-over (a .text .now) (a .table .now) (a .n) (a .at) (a .s) (l .i) (l .inv) h (sees-not (a .text .now) (a .table .now) (a .n) (l .i) (a .s) h (c .before .symbol-at .ensures) (c .if1 .left))
+    scan-over (a .text .now) (a .table .now) (a .n) (a .at) (a .s) (l .i) (l .inv) h
+    (sees-not (a .text .now) (a .table .now) (a .n) (l .i) (a .s) h (c .before .symbol-at .ensures) (c .if1 .left))
 
 returns-2 : tie.Need-returns-2 Inv-loop μ-loop
 returns-2 c =

@@ -46,29 +46,48 @@ word-requires-4 : tie.Need-word-requires-4
 word-requires-4 c κs = search needs
 
 sub-same : tie.Need-sub-same
-sub-same c = let s = c .before .before .before .before .before .before .before .before in let w = s .pre .0 .within (s .args .a) (s .pre .1 .1 .0) in omega (arith, c .before .before .before .word .ensures, c .before .before .word2 .ensures)
+sub-same c =
+    let s = c .before .before .before .before .before .before .before .before in
+    let w = s .pre .0 .within (s .args .a) (s .pre .1 .1 .0) in omega (arith, c .before .before .before .word .ensures, c .before .before .word2 .ensures)
 
 part-same-start : tie.Need-part-same-start
-part-same-start c = let s = c .before .before .before .before .before .before .before .before in let w = s .pre .0 .within (s .args .a) (s .pre .1 .1 .0) in omega (arith, c .before .before .before .word .ensures, c .before .before .word2 .ensures)
+part-same-start c =
+    let s = c .before .before .before .before .before .before .before .before in
+    let w = s .pre .0 .within (s .args .a) (s .pre .1 .1 .0) in omega (arith, c .before .before .before .word .ensures, c .before .before .word2 .ensures)
 
 part-same-end : tie.Need-part-same-end
-part-same-end c = let s = c .before .before .before .before .before .before .before .before in let w = s .pre .0 .within (s .args .a) (s .pre .1 .1 .0) in omega (arith, c .before .before .before .word .ensures, c .before .before .word2 .ensures)
+part-same-end c =
+    let s = c .before .before .before .before .before .before .before .before in
+    let w = s .pre .0 .within (s .args .a) (s .pre .1 .1 .0) in omega (arith, c .before .before .before .word .ensures, c .before .before .word2 .ensures)
 
 sub-same-2 : tie.Need-sub-same-2
-sub-same-2 c = let s = c .before .before .before .before .before .before .before .before .before in let w = s .pre .1 .0 .within (s .args .b) (s .pre .1 .1 .1) in omega (arith, c .before .before .word3 .ensures, c .before .word4 .ensures)
+sub-same-2 c =
+    let s = c .before .before .before .before .before .before .before .before .before in
+    let w = s .pre .1 .0 .within (s .args .b) (s .pre .1 .1 .1) in omega (arith, c .before .before .word3 .ensures, c .before .word4 .ensures)
 
 part-same-start-2 : tie.Need-part-same-start-2
-part-same-start-2 c = let s = c .before .before .before .before .before .before .before .before .before in let w = s .pre .1 .0 .within (s .args .b) (s .pre .1 .1 .1) in omega (arith, c .before .before .word3 .ensures, c .before .word4 .ensures)
+part-same-start-2 c =
+    let s = c .before .before .before .before .before .before .before .before .before in
+    let w = s .pre .1 .0 .within (s .args .b) (s .pre .1 .1 .1) in omega (arith, c .before .before .word3 .ensures, c .before .word4 .ensures)
 
 part-same-end-2 : tie.Need-part-same-end-2
-part-same-end-2 c = let s = c .before .before .before .before .before .before .before .before .before in let w = s .pre .1 .0 .within (s .args .b) (s .pre .1 .1 .1) in omega (arith, c .before .before .word3 .ensures, c .before .word4 .ensures)
+part-same-end-2 c =
+    let s = c .before .before .before .before .before .before .before .before .before in
+    let w = s .pre .1 .0 .within (s .args .b) (s .pre .1 .1 .1) in omega (arith, c .before .before .word3 .ensures, c .before .word4 .ensures)
 
 same-requires : tie.Need-same-requires
 same-requires c κs = search needs
 
 returns : tie.Need-returns
 unfolding tokenAt
-returns c = c .same .ensures ∙ simp (c .before .before .before .before .before .before .word .ensures, c .before .before .before .before .before .word2 .ensures, c .before .before .before .before .word3 .ensures, c .before .before .before .word4 .ensures)
+returns c =
+    c .same .ensures
+    ∙ simp (
+      c .before .before .before .before .before .before .word .ensures,
+      c .before .before .before .before .before .word2 .ensures,
+      c .before .before .before .before .word3 .ensures,
+      c .before .before .before .word4 .ensures,
+    )
 
 pub alike-spec : {M : Type 1} → statement M
 alike-spec =

@@ -32,17 +32,30 @@ enum-told c = search needs
 returns : tie.Need-returns
 returns c =
     let a = c .before .before .before .before .before .before .before .before .args in
-    fell _ (onto _ (c .before .before .then-list .ensures) (onto _ (c .before .before .before .then-expect2 .ensures) (onto _ (c .before .before .before .before .then-expect .ensures) (c .before .before .before .before .before .items .ensures)))) (call-is (a .text .now) (a .table .now) (length (a .text .now)) (a .n) (a .at)) (c .enum-told .given .1)
+    fell _
+    (onto _ (c .before .before .then-list .ensures)
+    (onto _ (c .before .before .before .then-expect2 .ensures)
+    (onto _ (c .before .before .before .before .then-expect .ensures) (c .before .before .before .before .before .items .ensures))))
+    (call-is (a .text .now) (a .table .now) (length (a .text .now)) (a .n) (a .at)) (c .enum-told .given .1)
 
 semicolon-requires : tie.Need-semicolon-requires
 semicolon-requires c κs =
-    let a = c .before .before .before .before .before .before .before .before .before .args in
-    (c .before .before .before .before .before .before .before .before .before .pre, step-reaches (length (a .text .now)) (a .n) (c .before .before .before .before .then-expect2 .result) (λ j. row plain (commas rightRound) (reader Argument) (toks (a .text .now) (a .table .now) (a .n) j)) (c .before .before .before .then-list .ensures) (c .before .arguments .given .1))
+    let a = c .before .before .before .before .before .before .before .before .before .args in (
+      c .before .before .before .before .before .before .before .before .before .pre,
+      step-reaches (length (a .text .now)) (a .n) (c .before .before .before .before .then-expect2 .result)
+          (λ j. row plain (commas rightRound) (reader Argument) (toks (a .text .now) (a .table .now) (a .n) j)) (c .before .before .before .then-list .ensures)
+          (c .before .arguments .given .1),
+    )
 
 returns-2 : tie.Need-returns-2
 returns-2 c =
     let a = c .before .before .before .before .before .before .before .before .before .before .args in
-    went _ (onto _ (c .before .before .before .before .then-list .ensures) (onto _ (c .before .before .before .before .before .then-expect2 .ensures) (onto _ (c .before .before .before .before .before .before .then-expect .ensures) (c .before .before .before .before .before .before .before .items .ensures)))) (call-is (a .text .now) (a .table .now) (length (a .text .now)) (a .n) (a .at)) (c .before .before .arguments .given .1) (c .semicolon .ensures)
+    went _
+    (onto _ (c .before .before .before .before .then-list .ensures)
+    (onto _ (c .before .before .before .before .before .then-expect2 .ensures)
+    (onto _ (c .before .before .before .before .before .before .then-expect .ensures)
+    (c .before .before .before .before .before .before .before .items .ensures))))
+    (call-is (a .text .now) (a .table .now) (length (a .text .now)) (a .n) (a .at)) (c .before .before .arguments .given .1) (c .semicolon .ensures)
 
 pub call-spec : {M : Type 1} → statement M
 call-spec =

@@ -26,12 +26,17 @@ fault-at-requires c κs = search needs
 returns-2 : tie.Need-returns-2
 returns-2 c =
     let a = c .before .before .before .before .before .before .before .before .args in
-    went _ (c .before .before .before .before .before .graph-text .ensures) (document-is (a .text .now) (a .table .now) (length (a .text .now)) (a .n)) (c .before .before .before .graph .given .1) (at-rest (a .text .now) (a .table .now) (length (a .text .now)) (a .n) (c .before .before .before .graph .given .0 .0) (c .before .if1 .taken) (c .fault-at .ensures))
+    went _ (c .before .before .before .before .before .graph-text .ensures) (document-is (a .text .now) (a .table .now) (length (a .text .now)) (a .n))
+    (c .before .before .before .graph .given .1)
+    (at-rest (a .text .now) (a .table .now) (length (a .text .now)) (a .n) (c .before .before .before .graph .given .0 .0) (c .before .if1 .taken)
+    (c .fault-at .ensures))
 
 returns-3 : tie.Need-returns-3
 returns-3 c =
     let a = c .before .before .before .before .before .before .before .args in
-    went _ (c .before .before .before .before .graph-text .ensures) (document-is (a .text .now) (a .table .now) (length (a .text .now)) (a .n)) (c .before .before .graph .given .1) (at-end (a .text .now) (a .table .now) (length (a .text .now)) (a .n) (c .before .before .graph .given .0 .0) (c .if1 .left))
+    went _ (c .before .before .before .before .graph-text .ensures) (document-is (a .text .now) (a .table .now) (length (a .text .now)) (a .n))
+    (c .before .before .graph .given .1)
+    (at-end (a .text .now) (a .table .now) (length (a .text .now)) (a .n) (c .before .before .graph .given .0 .0) (c .if1 .left))
 
 pub document-syntax-spec : {M : Type 1} → statement M
 document-syntax-spec =

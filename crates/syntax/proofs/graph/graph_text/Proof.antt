@@ -30,7 +30,12 @@ enum-told c = search needs
 returns : tie.Need-returns
 returns c =
     let a = c .before .before .before .before .before .before .before .before .before .args in
-    fell _ (onto _ (c .before .before .then-expect3 .ensures) (onto _ (c .before .before .before .then-list .ensures) (onto _ (c .before .before .before .before .then-expect2 .ensures) (onto _ (c .before .before .before .before .before .then-expect .ensures) (c .before .before .before .before .before .before .inputs .ensures))))) (graph-is (a .text .now) (a .table .now) (length (a .text .now)) (a .n)) (c .enum-told .given .1)
+    fell _
+    (onto _ (c .before .before .then-expect3 .ensures)
+    (onto _ (c .before .before .before .then-list .ensures)
+    (onto _ (c .before .before .before .before .then-expect2 .ensures)
+    (onto _ (c .before .before .before .before .before .then-expect .ensures) (c .before .before .before .before .before .before .inputs .ensures)))))
+    (graph-is (a .text .now) (a .table .now) (length (a .text .now)) (a .n)) (c .enum-told .given .1)
 
 body-requires : tie.Need-body-requires
 body-requires c κs = search needs
@@ -38,7 +43,13 @@ body-requires c κs = search needs
 returns-2 : tie.Need-returns-2
 returns-2 c =
     let a = c .before .before .before .before .before .before .before .before .before .before .before .args in
-    went _ (onto _ (c .before .before .before .before .then-expect3 .ensures) (onto _ (c .before .before .before .before .before .then-list .ensures) (onto _ (c .before .before .before .before .before .before .then-expect2 .ensures) (onto _ (c .before .before .before .before .before .before .before .then-expect .ensures) (c .before .before .before .before .before .before .before .before .inputs .ensures))))) (graph-is (a .text .now) (a .table .now) (length (a .text .now)) (a .n)) (c .before .before .opening .given .1) (c .body .ensures)
+    went _
+    (onto _ (c .before .before .before .before .then-expect3 .ensures)
+    (onto _ (c .before .before .before .before .before .then-list .ensures)
+    (onto _ (c .before .before .before .before .before .before .then-expect2 .ensures)
+    (onto _ (c .before .before .before .before .before .before .before .then-expect .ensures)
+    (c .before .before .before .before .before .before .before .before .inputs .ensures)))))
+    (graph-is (a .text .now) (a .table .now) (length (a .text .now)) (a .n)) (c .before .before .opening .given .1) (c .body .ensures)
 
 pub graph-text-spec : {M : Type 1} → statement M
 graph-text-spec =

@@ -28,7 +28,11 @@ then-list-requires c κs = search needs
 returns : tie.Need-returns
 returns c =
     let a = c .before .before .before .before .before .before .before .before .args in
-    onto _ (c .then-list .ensures) (onto _ (c .before .then-expect4 .ensures) (onto _ (c .before .before .then-expect3 .ensures) (onto _ (c .before .before .before .then-expect2 .ensures) (onto _ (c .before .before .before .before .then-expect .ensures) (c .before .before .before .before .before .expect .ensures)))))
+    onto _ (c .then-list .ensures)
+    (onto _ (c .before .then-expect4 .ensures)
+    (onto _ (c .before .before .then-expect3 .ensures)
+    (onto _ (c .before .before .before .then-expect2 .ensures)
+    (onto _ (c .before .before .before .before .then-expect .ensures) (c .before .before .before .before .before .expect .ensures)))))
     ∙ sym (inputs-is (a .text .now) (a .table .now) (length (a .text .now)) (a .n))
 
 pub inputs-spec : {M : Type 1} → statement M

@@ -24,7 +24,8 @@ returns c =
 returns-2 : tie.Need-returns-2
 returns-2 c =
     let a = c .before .before .before .before .args in
-    at-none (a .text .now) (a .table .now) (length (a .text .now)) (a .n) (a .at) (c .before .symbol-at .ensures) (c .before .before .before .before .pre .1) (c .if1 .left)
+    at-none (a .text .now) (a .table .now) (length (a .text .now)) (a .n) (a .at) (c .before .symbol-at .ensures) (c .before .before .before .before .pre .1)
+    (c .if1 .left)
 
 pub semicolon-spec : {M : Type 1} → statement M
 semicolon-spec = tie.close (tie.spec symbol-at-requires add-t7 returns returns-2)

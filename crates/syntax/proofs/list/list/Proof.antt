@@ -1,4 +1,5 @@
--- `list::list` meets its contract. The invariant: from `i` on the row answers what it answers from `at` on. The measure is the number of tokens left. Assumes nothing.
+-- `list::list` meets its contract. The invariant: from `i` on the row answers what it answers from `at` on. The measure is the number of tokens left.
+-- Assumes nothing.
 use mathlib.Core.Path.{_≡_, refl, sym, _∙_}
 use native.Mathlib.Omega.{arith}
 use Prim.Native.Nat.{_-_}
@@ -17,7 +18,8 @@ use Rattle.syntax.proofs.list.list.Tie as tie
 
 abbrev Inv-loop : tie.InvT-loop
 Inv-loop text table n at which i₀ i =
-    parsed (length text) n (row plain (commas rightRound) (reader which) (toks text table n at)) ≡ parsed (length text) n (row plain (commas rightRound) (reader which) (toks text table n i))
+    parsed (length text) n (row plain (commas rightRound) (reader which) (toks text table n at)) ≡ parsed (length text) n
+    (row plain (commas rightRound) (reader which) (toks text table n i))
 
 abbrev μ-loop : tie.MeasureT-loop
 μ-loop text table n at which i₀ i = n - i
@@ -37,7 +39,9 @@ enum-told c = search needs
 returns : tie.Need-returns Inv-loop μ-loop
 returns c =
     let a = c .before .before .before .before .before .before .args in
-    row-fell plain rightRound (item-sound (a .which)) (length (a .text .now)) (a .n) (a .text .now) (a .table .now) (c .before .before .before .loop .i) (c .before .before .one .ensures) (c .enum-told .given .1) ∙ sym (c .before .before .before .loop .inv)
+    row-fell plain rightRound (item-sound (a .which)) (length (a .text .now)) (a .n) (a .text .now) (a .table .now) (c .before .before .before .loop .i)
+    (c .before .before .one .ensures) (c .enum-told .given .1)
+    ∙ sym (c .before .before .before .loop .inv)
 
 symbol-at-requires : tie.Need-symbol-at-requires Inv-loop μ-loop
 symbol-at-requires c κs = search needs
@@ -48,25 +52,38 @@ expect-requires c κs = search needs
 returns-2 : tie.Need-returns-2 Inv-loop μ-loop
 returns-2 c =
     let a = c .before .before .before .before .before .before .before .before .before .before .args in
-    row-last plain rightRound (item-sound (a .which)) (length (a .text .now)) (a .n) (a .text .now) (a .table .now) (c .before .before .before .before .before .before .before .loop .i) (c .before .before .before .before .before .before .one .ensures) (c .before .before .before .before .item .given .1) (c .before .before .symbol-at .ensures) (c .before .if1 .taken) (c .expect .ensures)
+    row-last plain rightRound (item-sound (a .which)) (length (a .text .now)) (a .n) (a .text .now) (a .table .now)
+    (c .before .before .before .before .before .before .before .loop .i) (c .before .before .before .before .before .before .one .ensures)
+    (c .before .before .before .before .item .given .1) (c .before .before .symbol-at .ensures) (c .before .if1 .taken) (c .expect .ensures)
     ∙ sym (c .before .before .before .before .before .before .before .loop .inv)
 
 add-i : tie.Need-add-i Inv-loop μ-loop
 add-i c =
     let a = c .before .before .before .before .before .before .before .before .before .args in
-    let h = stands (a .text .now) (a .table .now) (a .n) (c .before .before .before .item .given .0 .0) (c .before .symbol-at .ensures) (omega (arith, c .if1 .left)) in
+    let h = stands (a .text .now) (a .table .now) (a .n) (c .before .before .before .item .given .0 .0) (c .before .symbol-at .ensures)
+    (omega (arith, c .if1 .left)) in
     search needs
 
 loop-less : tie.Need-loop-less Inv-loop μ-loop
 loop-less c =
     let a = c .before .before .before .before .before .before .before .before .before .args in
-    let h = stands (a .text .now) (a .table .now) (a .n) (c .before .before .before .item .given .0 .0) (c .before .symbol-at .ensures) (omega (arith, c .if1 .left)) in
-    omega (arith, passes (a .text .now) (a .table .now) (length (a .text .now)) (a .n) (c .before .before .before .before .before .before .loop .i) (item-sound (a .which) .small (toks (a .text .now) (a .table .now) (a .n) (c .before .before .before .before .before .before .loop .i))) (c .before .before .before .before .before .one .ensures) (c .before .before .before .item .given .1), h)
+    let h = stands (a .text .now) (a .table .now) (a .n) (c .before .before .before .item .given .0 .0) (c .before .symbol-at .ensures)
+    (omega (arith, c .if1 .left)) in
+    omega (
+      arith,
+      passes (a .text .now) (a .table .now) (length (a .text .now)) (a .n) (c .before .before .before .before .before .before .loop .i)
+          (item-sound (a .which) .small (toks (a .text .now) (a .table .now) (a .n) (c .before .before .before .before .before .before .loop .i)))
+          (c .before .before .before .before .before .one .ensures) (c .before .before .before .item .given .1),
+      h,
+    )
 
 loop-again : tie.Need-loop-again Inv-loop μ-loop
 loop-again c =
     let a = c .before .before .before .before .before .before .before .before .before .args in
-    c .before .before .before .before .before .before .loop .inv ∙ row-next plain rightRound (item-sound (a .which)) (length (a .text .now)) (a .n) (a .text .now) (a .table .now) (c .before .before .before .before .before .before .loop .i) (c .before .before .before .before .before .one .ensures) (c .before .before .before .item .given .1) (c .before .symbol-at .ensures) (c .if1 .left)
+    c .before .before .before .before .before .before .loop .inv
+    ∙ row-next plain rightRound (item-sound (a .which)) (length (a .text .now)) (a .n) (a .text .now) (a .table .now)
+    (c .before .before .before .before .before .before .loop .i) (c .before .before .before .before .before .one .ensures)
+    (c .before .before .before .item .given .1) (c .before .symbol-at .ensures) (c .if1 .left)
 
 pub list-spec : {M : Type 1} → statement M
 list-spec =

@@ -21,17 +21,22 @@ enum-told c = search needs
 returns : tie.Need-returns
 returns c =
     let a = c .before .before .before .before .before .args in
-    fell _ (c .before .before .result .ensures) (param-is (a .text .now) (a .table .now) (length (a .text .now)) (a .n) (a .at) maxBrackets) (c .enum-told .given .1)
+    fell _ (c .before .before .result .ensures) (param-is (a .text .now) (a .table .now) (length (a .text .now)) (a .n) (a .at) maxBrackets)
+    (c .enum-told .given .1)
 
 default-requires : tie.Need-default-requires
 default-requires c κs =
-    let a = c .before .before .before .before .before .before .args in
-    (c .before .before .before .before .before .before .pre, reaches (length (a .text .now)) (a .n) (result maxBrackets (toks (a .text .now) (a .table .now) (a .n) (a .at))) (c .before .before .before .result .ensures) (c .before .typed .given .1))
+    let a = c .before .before .before .before .before .before .args in (
+      c .before .before .before .before .before .before .pre,
+      reaches (length (a .text .now)) (a .n) (result maxBrackets (toks (a .text .now) (a .table .now) (a .n) (a .at)))
+          (c .before .before .before .result .ensures) (c .before .typed .given .1),
+    )
 
 returns-2 : tie.Need-returns-2
 returns-2 c =
     let a = c .before .before .before .before .before .before .before .args in
-    went _ (c .before .before .before .before .result .ensures) (param-is (a .text .now) (a .table .now) (length (a .text .now)) (a .n) (a .at) maxBrackets) (c .before .before .typed .given .1) (c .default .ensures)
+    went _ (c .before .before .before .before .result .ensures) (param-is (a .text .now) (a .table .now) (length (a .text .now)) (a .n) (a .at) maxBrackets)
+    (c .before .before .typed .given .1) (c .default .ensures)
 
 pub parameter-spec : {M : Type 1} → statement M
 parameter-spec =

@@ -22,7 +22,8 @@ enum-told c = search needs
 returns : tie.Need-returns
 returns c =
     let a = c .before .before .before .before .before .before .args in
-    fell _ (onto _ (c .before .before .then-expect .ensures) (c .before .before .before .expect .ensures)) (result-is (a .text .now) (a .table .now) (length (a .text .now)) (a .n) (a .at) maxBrackets) (c .enum-told .given .1)
+    fell _ (onto _ (c .before .before .then-expect .ensures) (c .before .before .before .expect .ensures))
+    (result-is (a .text .now) (a .table .now) (length (a .text .now)) (a .n) (a .at) maxBrackets) (c .enum-told .given .1)
 
 type-at-requires : tie.Need-type-at-requires
 type-at-requires c κs = search needs
@@ -30,7 +31,8 @@ type-at-requires c κs = search needs
 returns-2 : tie.Need-returns-2
 returns-2 c =
     let a = c .before .before .before .before .before .before .before .before .args in
-    went _ (onto _ (c .before .before .before .before .then-expect .ensures) (c .before .before .before .before .before .expect .ensures)) (result-is (a .text .now) (a .table .now) (length (a .text .now)) (a .n) (a .at) maxBrackets) (c .before .before .colon .given .1) (c .type-at .ensures)
+    went _ (onto _ (c .before .before .before .before .then-expect .ensures) (c .before .before .before .before .before .expect .ensures))
+    (result-is (a .text .now) (a .table .now) (length (a .text .now)) (a .n) (a .at) maxBrackets) (c .before .before .colon .given .1) (c .type-at .ensures)
 
 pub result-spec : {M : Type 1} → statement M
 result-spec =

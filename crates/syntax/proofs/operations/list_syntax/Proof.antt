@@ -15,7 +15,8 @@ use Rattle.syntax.proofs.operations.list_syntax.Statement.{statement}
 use Rattle.syntax.proofs.operations.list_syntax.Tie as tie
 
 abbrev Inv-loop : tie.InvT-loop
-Inv-loop text table n i₀ i = parsed (length text) n (operations maxBrackets (toks text table n 0)) ≡ parsed (length text) n (operations maxBrackets (toks text table n i))
+Inv-loop text table n i₀ i =
+    parsed (length text) n (operations maxBrackets (toks text table n 0)) ≡ parsed (length text) n (operations maxBrackets (toks text table n i))
 
 abbrev μ-loop : tie.MeasureT-loop
 μ-loop text table n i₀ i = n - i
@@ -35,17 +36,32 @@ enum-told c = search needs
 returns : tie.Need-returns Inv-loop μ-loop
 returns c =
     let a = c .before .before .before .before .before .before .before .args in
-    fell _ (c .before .before .header .ensures) (operations-is (a .text .now) (a .table .now) (length (a .text .now)) (a .n) (c .before .before .before .before .loop .i) (c .before .before .before .loop-test .taken)) (c .enum-told .given .1) ∙ sym (c .before .before .before .before .loop .inv)
+    fell _ (c .before .before .header .ensures)
+    (operations-is (a .text .now) (a .table .now) (length (a .text .now)) (a .n) (c .before .before .before .before .loop .i)
+    (c .before .before .before .loop-test .taken))
+    (c .enum-told .given .1)
+    ∙ sym (c .before .before .before .before .loop .inv)
 
 loop-less : tie.Need-loop-less Inv-loop μ-loop
 loop-less c =
     let a = c .before .before .before .before .before .before .before .before .args in
-    omega (arith, passes (a .text .now) (a .table .now) (length (a .text .now)) (a .n) (c .before .before .before .before .before .loop .i) (header-shrinks maxBrackets (toks (a .text .now) (a .table .now) (a .n) (c .before .before .before .before .before .loop .i))) (c .before .before .before .header .ensures) (c .before .one .given .1), c .before .before .before .before .loop-test .taken)
+    omega (
+      arith,
+      passes (a .text .now) (a .table .now) (length (a .text .now)) (a .n) (c .before .before .before .before .before .loop .i)
+          (header-shrinks maxBrackets (toks (a .text .now) (a .table .now) (a .n) (c .before .before .before .before .before .loop .i)))
+          (c .before .before .before .header .ensures) (c .before .one .given .1),
+      c .before .before .before .before .loop-test .taken,
+    )
 
 loop-again : tie.Need-loop-again Inv-loop μ-loop
 loop-again c =
     let a = c .before .before .before .before .before .before .before .before .args in
-    c .before .before .before .before .before .loop .inv ∙ sym (went _ (c .before .before .before .header .ensures) (operations-is (a .text .now) (a .table .now) (length (a .text .now)) (a .n) (c .before .before .before .before .before .loop .i) (c .before .before .before .before .loop-test .taken)) (c .before .one .given .1) refl)
+    c .before .before .before .before .before .loop .inv
+    ∙ sym
+    (went _ (c .before .before .before .header .ensures)
+    (operations-is (a .text .now) (a .table .now) (length (a .text .now)) (a .n) (c .before .before .before .before .before .loop .i)
+    (c .before .before .before .before .loop-test .taken))
+    (c .before .one .given .1) refl)
 
 returns-2 : tie.Need-returns-2 Inv-loop μ-loop
 returns-2 c =

@@ -17,14 +17,17 @@ returns c = c .fault-at .ensures ∙ sym (expect-no _ _ _ _ (λ z. c .before .if
 
 add-t8 : tie.Need-add-t8
 add-t8 c =
-    let h = stands (c .before .before .before .before .args .text .now) (c .before .before .before .before .args .table .now) (c .before .before .before .before .args .n) (c .before .before .before .before .args .at) (sym (c .if1 .left) ∙ c .before .symbol-at .ensures) (c .before .before .before .before .pre .1) in
+    let h = stands (c .before .before .before .before .args .text .now) (c .before .before .before .before .args .table .now)
+    (c .before .before .before .before .args .n) (c .before .before .before .before .args .at) (sym (c .if1 .left) ∙ c .before .symbol-at .ensures)
+    (c .before .before .before .before .pre .1) in
     search needs
 
 returns-2 : tie.Need-returns-2
 returns-2 c =
     let a = c .before .before .before .before .args in
     let e = sym (c .if1 .left) ∙ c .before .symbol-at .ensures in
-    one-more (a .text .now) (a .table .now) (a .n) (a .at) (stands (a .text .now) (a .table .now) (a .n) (a .at) e (c .before .before .before .before .pre .1)) ∙ sym (expect-yes (length (a .text .now)) (a .n) (a .s) _ (c .before .before .before .before .pre .1) (sym e))
+    one-more (a .text .now) (a .table .now) (a .n) (a .at) (stands (a .text .now) (a .table .now) (a .n) (a .at) e (c .before .before .before .before .pre .1))
+    ∙ sym (expect-yes (length (a .text .now)) (a .n) (a .s) _ (c .before .before .before .before .pre .1) (sym e))
 
 pub expect-spec : {M : Type 1} → statement M
 expect-spec = tie.close (tie.spec symbol-at-requires fault-at-requires returns add-t8 returns-2)

@@ -7,7 +7,8 @@ use Rattle.syntax.proofs.symbol.place_at.Tie as tie
 
 returns : tie.Need-returns
 returns c =
-    place-none (c .before .before .before .args .text .now) (c .before .before .before .args .table .now) (c .before .before .before .args .n) (c .before .before .before .args .at) (c .if1 .taken)
+    place-none (c .before .before .before .args .text .now) (c .before .before .before .args .table .now) (c .before .before .before .args .n)
+    (c .before .before .before .args .at) (c .if1 .taken)
 
 mul-size : tie.Need-mul-size
 mul-size c = search needs
@@ -26,7 +27,9 @@ size-requires c κs = search needs
 
 returns-2 : tie.Need-returns-2
 returns-2 c =
-    c .size .ensures ∙ place-more (c .before .before .before .before .before .args .text .now) (c .before .before .before .before .before .args .table .now) (c .before .before .before .before .before .args .n) (c .before .before .before .before .before .args .at) (c .before .before .if1 .left)
+    c .size .ensures
+    ∙ place-more (c .before .before .before .before .before .args .text .now) (c .before .before .before .before .before .args .table .now)
+    (c .before .before .before .before .before .args .n) (c .before .before .before .before .before .args .at) (c .before .before .if1 .left)
 
 pub place-at-spec : {M : Type 1} → statement M
 place-at-spec =

@@ -112,7 +112,8 @@ base-add-t8 : (t : ℕ) → base-lts.Need-add-t8 (
 ) (base-at t) base.Post
 base-add-t8 t c =
     let a = c .before .before .before .before .before .args in
-    let h = word-stands (a .text .now) (a .table .now) 0 (a .n) (a .at) 0 (c .before .before .symbol-at .ensures) (sym (c .before .is-type-word .ensures) ∙ c .if1 .taken) in
+    let h = word-stands (a .text .now) (a .table .now) 0 (a .n) (a .at) 0 (c .before .before .symbol-at .ensures)
+    (sym (c .before .is-type-word .ensures) ∙ c .if1 .taken) in
     search needs
 
 base-returns : (t : ℕ) → base-lts.Need-returns (
@@ -127,7 +128,8 @@ base-returns : (t : ℕ) → base-lts.Need-returns (
 ) (base-at t) base.Post
 base-returns t c =
     let a = c .before .before .before .before .before .args in
-    at-word (a .text .now) (a .table .now) (length (a .text .now)) (a .n) (a .at) (a .room) (c .before .before .symbol-at .ensures) (sym (c .before .is-type-word .ensures) ∙ c .if1 .taken)
+    at-word (a .text .now) (a .table .now) (length (a .text .now)) (a .n) (a .at) (a .room) (c .before .before .symbol-at .ensures)
+    (sym (c .before .is-type-word .ensures) ∙ c .if1 .taken)
 
 base-fault-at-requires : (t : ℕ) → base-lts.Need-fault-at-requires (
   symbol-at-reads.Asked,
@@ -153,7 +155,8 @@ base-returns-2 : (t : ℕ) → base-lts.Need-returns-2 (
 ) (base-at t) base.Post
 base-returns-2 t c =
     let a = c .before .before .before .before .before .before .before .args in
-    at-not (a .text .now) (a .table .now) (length (a .text .now)) (a .n) (a .at) (a .room) (c .before .before .before .before .symbol-at .ensures) (sym (c .before .before .before .is-type-word .ensures) ∙ c .before .before .if1 .left) (c .before .if2 .taken) (c .fault-at .ensures)
+    at-not (a .text .now) (a .table .now) (length (a .text .now)) (a .n) (a .at) (a .room) (c .before .before .before .before .symbol-at .ensures)
+    (sym (c .before .before .before .is-type-word .ensures) ∙ c .before .before .if1 .left) (c .before .if2 .taken) (c .fault-at .ensures)
 
 base-fault-at-requires-2 : (t : ℕ) → base-lts.Need-fault-at-requires-2 (
   symbol-at-reads.Asked,
@@ -179,7 +182,8 @@ base-returns-3 : (t : ℕ) → base-lts.Need-returns-3 (
 ) (base-at t) base.Post
 base-returns-3 t c =
     let a = c .before .before .before .before .before .before .before .before .args in
-    at-full (a .text .now) (a .table .now) (length (a .text .now)) (a .n) (a .at) (a .room) (c .before .before .before .before .before .symbol-at .ensures) (c .before .before .if2 .left) (c .before .if3 .taken) (c .fault-at2 .ensures)
+    at-full (a .text .now) (a .table .now) (length (a .text .now)) (a .n) (a .at) (a .room) (c .before .before .before .before .before .symbol-at .ensures)
+    (c .before .before .if2 .left) (c .before .if3 .taken) (c .fault-at2 .ensures)
 
 base-add-tuple-type : (t : ℕ) → base-lts.Need-add-tuple-type (
   symbol-at-reads.Asked,
@@ -193,7 +197,8 @@ base-add-tuple-type : (t : ℕ) → base-lts.Need-add-tuple-type (
 ) (base-at t) base.Post
 base-add-tuple-type t c =
     let a = c .before .before .before .before .before .before .before .args in
-    let h = stands (a .text .now) (a .table .now) (a .n) (a .at) (c .before .before .before .before .symbol-at .ensures) (omega (arith, c .before .if2 .left)) in
+    let h = stands (a .text .now) (a .table .now) (a .n) (a .at) (c .before .before .before .before .symbol-at .ensures) (omega (arith, c .before .if2 .left))
+    in
     search needs
 
 base-sub-tuple-type : (t : ℕ) → base-lts.Need-sub-tuple-type (
@@ -220,7 +225,8 @@ base-tuple-type-requires : (t : ℕ) → base-lts.Need-tuple-type-requires (
 ) (base-at t) base.Post
 base-tuple-type-requires t c κs =
     let a = c .before .before .before .before .before .before .before .args in
-    let h = stands (a .text .now) (a .table .now) (a .n) (a .at) (c .before .before .before .before .symbol-at .ensures) (omega (arith, c .before .if2 .left)) in
+    let h = stands (a .text .now) (a .table .now) (a .n) (a .at) (c .before .before .before .before .symbol-at .ensures) (omega (arith, c .before .if2 .left))
+    in
     (omega (arith, h, c .before .before .before .before .before .before .before .pre .0), c .before .before .before .before .before .before .before .pre .1)
 
 base-returns-4 : (t : ℕ) → base-lts.Need-returns-4 (
@@ -235,7 +241,8 @@ base-returns-4 : (t : ℕ) → base-lts.Need-returns-4 (
 ) (base-at t) base.Post
 base-returns-4 t c =
     let a = c .before .before .before .before .before .before .before .before .args in
-    at-tuple (a .text .now) (a .table .now) (length (a .text .now)) (a .n) (a .at) (a .room) (c .before .before .before .before .before .symbol-at .ensures) (c .before .before .if2 .left) (c .before .if3 .left) (c .tuple-type .ensures)
+    at-tuple (a .text .now) (a .table .now) (length (a .text .now)) (a .n) (a .at) (a .room) (c .before .before .before .before .before .symbol-at .ensures)
+    (c .before .before .if2 .left) (c .before .if3 .left) (c .tuple-type .ensures)
 
 tuple-type-type-at-requires : (t : ℕ) → tuple-type-lts.Need-type-at-requires (
   type-at-below t,
@@ -287,7 +294,8 @@ tuple-type-returns : (t : ℕ) → tuple-type-lts.Need-returns (
 ) (tuple-type-at t) tuple-type.Post
 tuple-type-returns t c =
     let a = c .before .before .before .before .before .before .args in
-    fell _ (onto _ (c .before .before .then-expect .ensures) (c .before .before .before .type-at .ensures)) (tuple-types-is (a .text .now) (a .table .now) (length (a .text .now)) (a .n) (a .at) (a .room)) (c .enum-told .given .1)
+    fell _ (onto _ (c .before .before .then-expect .ensures) (c .before .before .before .type-at .ensures))
+    (tuple-types-is (a .text .now) (a .table .now) (length (a .text .now)) (a .n) (a .at) (a .room)) (c .enum-told .given .1)
 
 tuple-type-type-items-requires : (t : ℕ) → tuple-type-lts.Need-type-items-requires (
   type-at-below t,
@@ -299,8 +307,11 @@ tuple-type-type-items-requires : (t : ℕ) → tuple-type-lts.Need-type-items-re
 ) (tuple-type-at t) tuple-type.Post
 tuple-type-type-items-requires t c κs =
     let a = c .before .before .before .before .before .before .before .args in
-    let w = comma-past (type-sound (a .room)) (a .text .now) (a .table .now) (length (a .text .now)) (a .n) (a .at) (onto _ (c .before .before .before .then-expect .ensures) (c .before .before .before .before .type-at .ensures)) (c .before .first .given .1) in
-    (omega (arith, w .0, w .1, c .before .before .before .before .before .before .before .pre .0), c .before .before .before .before .before .before .before .pre .1)
+    let w = comma-past (type-sound (a .room)) (a .text .now) (a .table .now) (length (a .text .now)) (a .n) (a .at)
+    (onto _ (c .before .before .before .then-expect .ensures) (c .before .before .before .before .type-at .ensures)) (c .before .first .given .1) in (
+      omega (arith, w .0, w .1, c .before .before .before .before .before .before .before .pre .0),
+      c .before .before .before .before .before .before .before .pre .1,
+    )
 
 tuple-type-returns-2 : (t : ℕ) → tuple-type-lts.Need-returns-2 (
   type-at-below t,
@@ -312,7 +323,9 @@ tuple-type-returns-2 : (t : ℕ) → tuple-type-lts.Need-returns-2 (
 ) (tuple-type-at t) tuple-type.Post
 tuple-type-returns-2 t c =
     let a = c .before .before .before .before .before .before .before .before .args in
-    went _ (onto _ (c .before .before .before .before .then-expect .ensures) (c .before .before .before .before .before .type-at .ensures)) (tuple-types-is (a .text .now) (a .table .now) (length (a .text .now)) (a .n) (a .at) (a .room)) (c .before .before .first .given .1) (c .type-items .ensures)
+    went _ (onto _ (c .before .before .before .before .then-expect .ensures) (c .before .before .before .before .before .type-at .ensures))
+    (tuple-types-is (a .text .now) (a .table .now) (length (a .text .now)) (a .n) (a .at) (a .room)) (c .before .before .first .given .1)
+    (c .type-items .ensures)
 
 type-at-base-requires : (t : ℕ) → type-at-lts.Need-base-requires (
   base-below t,
@@ -355,8 +368,11 @@ type-at-pairs-requires : (t : ℕ) → type-at-lts.Need-pairs-requires (
   pairs-reads.Learnt,
 ) (type-at-at t) type-at.Post
 type-at-pairs-requires t c κs =
-    let a = c .before .before .before .before .before .before .args in
-    (c .before .before .before .before .before .before .pre .1, reaches (length (a .text .now)) (a .n) (baseOf (a .room) (toks (a .text .now) (a .table .now) (a .n) (a .at))) (c .before .before .before .base .ensures) (c .before .first .given .1))
+    let a = c .before .before .before .before .before .before .args in (
+      c .before .before .before .before .before .before .pre .1,
+      reaches (length (a .text .now)) (a .n) (baseOf (a .room) (toks (a .text .now) (a .table .now) (a .n) (a .at))) (c .before .before .before .base .ensures)
+          (c .before .first .given .1),
+    )
 
 type-at-returns-2 : (t : ℕ) → type-at-lts.Need-returns-2 (
   base-below t,
@@ -366,11 +382,15 @@ type-at-returns-2 : (t : ℕ) → type-at-lts.Need-returns-2 (
 ) (type-at-at t) type-at.Post
 type-at-returns-2 t c =
     let a = c .before .before .before .before .before .before .before .args in
-    went _ (c .before .before .before .before .base .ensures) (type-is (a .text .now) (a .table .now) (length (a .text .now)) (a .n) (a .at) (a .room)) (c .before .before .first .given .1) (c .pairs .ensures)
+    went _ (c .before .before .before .before .base .ensures) (type-is (a .text .now) (a .table .now) (length (a .text .now)) (a .n) (a .at) (a .room))
+    (c .before .before .first .given .1) (c .pairs .ensures)
 
 abbrev type-items-Inv-loop : type-items-lts.InvT-loop
 type-items-Inv-loop text table n at room i₀ i =
-    (at ≤ i) × (parsed (length text) n (row types (commas rightRound) (type room) (toks text table n at)) ≡ parsed (length text) n (row types (commas rightRound) (type room) (toks text table n i)))
+    (at ≤ i)
+    ×
+    (parsed (length text) n (row types (commas rightRound) (type room) (toks text table n at)) ≡ parsed (length text) n
+    (row types (commas rightRound) (type room) (toks text table n i)))
 
 abbrev type-items-μ-loop : type-items-lts.MeasureT-loop
 type-items-μ-loop text table n at room i₀ i = n - i
@@ -425,7 +445,8 @@ type-items-returns : (t : ℕ) → type-items-lts.Need-returns (
 ) (type-items-at t) type-items.Post type-items-Inv-loop type-items-μ-loop
 type-items-returns t c =
     let a = c .before .before .before .before .before .before .args in
-    row-fell types rightRound (type-sound (a .room)) (length (a .text .now)) (a .n) (a .text .now) (a .table .now) (c .before .before .before .loop .i) (c .before .before .type-at .ensures) (c .enum-told .given .1)
+    row-fell types rightRound (type-sound (a .room)) (length (a .text .now)) (a .n) (a .text .now) (a .table .now) (c .before .before .before .loop .i)
+    (c .before .before .type-at .ensures) (c .enum-told .given .1)
     ∙ sym (c .before .before .before .loop .inv .1)
 
 type-items-symbol-at-requires : (t : ℕ) → type-items-lts.Need-symbol-at-requires (
@@ -458,7 +479,9 @@ type-items-returns-2 : (t : ℕ) → type-items-lts.Need-returns-2 (
 ) (type-items-at t) type-items.Post type-items-Inv-loop type-items-μ-loop
 type-items-returns-2 t c =
     let a = c .before .before .before .before .before .before .before .before .before .before .args in
-    row-last types rightRound (type-sound (a .room)) (length (a .text .now)) (a .n) (a .text .now) (a .table .now) (c .before .before .before .before .before .before .before .loop .i) (c .before .before .before .before .before .before .type-at .ensures) (c .before .before .before .before .item .given .1) (c .before .before .symbol-at .ensures) (c .before .if1 .taken) (c .expect .ensures)
+    row-last types rightRound (type-sound (a .room)) (length (a .text .now)) (a .n) (a .text .now) (a .table .now)
+    (c .before .before .before .before .before .before .before .loop .i) (c .before .before .before .before .before .before .type-at .ensures)
+    (c .before .before .before .before .item .given .1) (c .before .before .symbol-at .ensures) (c .before .if1 .taken) (c .expect .ensures)
     ∙ sym (c .before .before .before .before .before .before .before .loop .inv .1)
 
 type-items-add-i : (t : ℕ) → type-items-lts.Need-add-i (
@@ -471,7 +494,8 @@ type-items-add-i : (t : ℕ) → type-items-lts.Need-add-i (
 ) (type-items-at t) type-items.Post type-items-Inv-loop type-items-μ-loop
 type-items-add-i t c =
     let a = c .before .before .before .before .before .before .before .before .before .args in
-    let h = stands (a .text .now) (a .table .now) (a .n) (c .before .before .before .item .given .0 .0) (c .before .symbol-at .ensures) (omega (arith, c .if1 .left)) in
+    let h = stands (a .text .now) (a .table .now) (a .n) (c .before .before .before .item .given .0 .0) (c .before .symbol-at .ensures)
+    (omega (arith, c .if1 .left)) in
     search needs
 
 type-items-loop-less : (t : ℕ) → type-items-lts.Need-loop-less (
@@ -484,8 +508,15 @@ type-items-loop-less : (t : ℕ) → type-items-lts.Need-loop-less (
 ) (type-items-at t) type-items.Post type-items-Inv-loop type-items-μ-loop
 type-items-loop-less t c =
     let a = c .before .before .before .before .before .before .before .before .before .args in
-    let h = stands (a .text .now) (a .table .now) (a .n) (c .before .before .before .item .given .0 .0) (c .before .symbol-at .ensures) (omega (arith, c .if1 .left)) in
-    omega (arith, passes (a .text .now) (a .table .now) (length (a .text .now)) (a .n) (c .before .before .before .before .before .before .loop .i) (type-sound (a .room) .small (toks (a .text .now) (a .table .now) (a .n) (c .before .before .before .before .before .before .loop .i))) (c .before .before .before .before .before .type-at .ensures) (c .before .before .before .item .given .1), h)
+    let h = stands (a .text .now) (a .table .now) (a .n) (c .before .before .before .item .given .0 .0) (c .before .symbol-at .ensures)
+    (omega (arith, c .if1 .left)) in
+    omega (
+      arith,
+      passes (a .text .now) (a .table .now) (length (a .text .now)) (a .n) (c .before .before .before .before .before .before .loop .i)
+          (type-sound (a .room) .small (toks (a .text .now) (a .table .now) (a .n) (c .before .before .before .before .before .before .loop .i)))
+          (c .before .before .before .before .before .type-at .ensures) (c .before .before .before .item .given .1),
+      h,
+    )
 
 type-items-loop-again : (t : ℕ) → type-items-lts.Need-loop-again (
   type-at-below t,
@@ -497,9 +528,17 @@ type-items-loop-again : (t : ℕ) → type-items-lts.Need-loop-again (
 ) (type-items-at t) type-items.Post type-items-Inv-loop type-items-μ-loop
 type-items-loop-again t c =
     let a = c .before .before .before .before .before .before .before .before .before .args in (
-      omega (arith, passes (a .text .now) (a .table .now) (length (a .text .now)) (a .n) (c .before .before .before .before .before .before .loop .i) (type-sound (a .room) .small (toks (a .text .now) (a .table .now) (a .n) (c .before .before .before .before .before .before .loop .i))) (c .before .before .before .before .before .type-at .ensures) (c .before .before .before .item .given .1), c .before .before .before .before .before .before .loop .inv .0),
+      omega (
+        arith,
+        passes (a .text .now) (a .table .now) (length (a .text .now)) (a .n) (c .before .before .before .before .before .before .loop .i)
+            (type-sound (a .room) .small (toks (a .text .now) (a .table .now) (a .n) (c .before .before .before .before .before .before .loop .i)))
+            (c .before .before .before .before .before .type-at .ensures) (c .before .before .before .item .given .1),
+        c .before .before .before .before .before .before .loop .inv .0,
+      ),
       c .before .before .before .before .before .before .loop .inv .1
-          ∙ row-next types rightRound (type-sound (a .room)) (length (a .text .now)) (a .n) (a .text .now) (a .table .now) (c .before .before .before .before .before .before .loop .i) (c .before .before .before .before .before .type-at .ensures) (c .before .before .before .item .given .1) (c .before .symbol-at .ensures) (c .if1 .left),
+          ∙ row-next types rightRound (type-sound (a .room)) (length (a .text .now)) (a .n) (a .text .now) (a .table .now)
+          (c .before .before .before .before .before .before .loop .i) (c .before .before .before .before .before .type-at .ensures)
+          (c .before .before .before .item .given .1) (c .before .symbol-at .ensures) (c .if1 .left),
     )
 
 pub +base+tuple-type+type-at+type-items-spec : {M : Type 1} → statement M

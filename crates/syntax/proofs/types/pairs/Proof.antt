@@ -1,4 +1,5 @@
--- `types::pairs` meets its contract. The invariant: from `i` on the pairs answer what they answer from `at` on. The measure is the number of tokens left. Assumes nothing.
+-- `types::pairs` meets its contract. The invariant: from `i` on the pairs answer what they answer from `at` on. The measure is the number of tokens left.
+-- Assumes nothing.
 use mathlib.Core.Path.{_≡_, refl, sym, _∙_}
 use native.Mathlib.Omega.{arith}
 use Prim.Native.Nat.{_≤_, _-_}
@@ -15,7 +16,8 @@ use Rattle.syntax.proofs.types.pairs.Tie as tie
 
 abbrev Inv-loop : tie.InvT-loop
 Inv-loop text table n at room i₀ i =
-    (i ≤ n) × (parsed (length text) n (dims (ltb 0 room) tensor (toks text table n at)) ≡ parsed (length text) n (dims (ltb 0 room) tensor (toks text table n i)))
+    (i ≤ n)
+    × (parsed (length text) n (dims (ltb 0 room) tensor (toks text table n at)) ≡ parsed (length text) n (dims (ltb 0 room) tensor (toks text table n i)))
 
 abbrev μ-loop : tie.MeasureT-loop
 μ-loop text table n at room i₀ i = n - i
@@ -29,7 +31,9 @@ symbol-at-requires c κs = search needs
 returns : tie.Need-returns Inv-loop μ-loop
 returns c =
     let a = c .before .before .before .before .before .args in
-    pairs-stop (a .text .now) (a .table .now) (length (a .text .now)) (a .n) (c .before .before .loop .i) (a .room) (c .before .symbol-at .ensures) (c .before .before .loop .inv .0) (c .if1 .taken) ∙ sym (c .before .before .loop .inv .1)
+    pairs-stop (a .text .now) (a .table .now) (length (a .text .now)) (a .n) (c .before .before .loop .i) (a .room) (c .before .symbol-at .ensures)
+    (c .before .before .loop .inv .0) (c .if1 .taken)
+    ∙ sym (c .before .before .loop .inv .1)
 
 fault-at-requires : tie.Need-fault-at-requires Inv-loop μ-loop
 fault-at-requires c κs = search needs
@@ -37,12 +41,15 @@ fault-at-requires c κs = search needs
 returns-2 : tie.Need-returns-2 Inv-loop μ-loop
 returns-2 c =
     let a = c .before .before .before .before .before .before .before .args in
-    pairs-full (a .text .now) (a .table .now) (length (a .text .now)) (a .n) (c .before .before .before .before .loop .i) (a .room) (c .before .before .before .symbol-at .ensures) (c .before .before .if1 .left) (c .before .if2 .taken) (c .fault-at .ensures) ∙ sym (c .before .before .before .before .loop .inv .1)
+    pairs-full (a .text .now) (a .table .now) (length (a .text .now)) (a .n) (c .before .before .before .before .loop .i) (a .room)
+    (c .before .before .before .symbol-at .ensures) (c .before .before .if1 .left) (c .before .if2 .taken) (c .fault-at .ensures)
+    ∙ sym (c .before .before .before .before .loop .inv .1)
 
 add-next : tie.Need-add-next Inv-loop μ-loop
 add-next c =
     let a = c .before .before .before .before .before .before .args in
-    let h = stands (a .text .now) (a .table .now) (a .n) (c .before .before .before .loop .i) (c .before .before .symbol-at .ensures) (omega (arith, c .before .if1 .left)) in
+    let h = stands (a .text .now) (a .table .now) (a .n) (c .before .before .before .loop .i) (c .before .before .symbol-at .ensures)
+    (omega (arith, c .before .if1 .left)) in
     search needs
 
 symbol-at-requires-2 : tie.Need-symbol-at-requires-2 Inv-loop μ-loop
@@ -54,7 +61,10 @@ fault-at-requires-2 c κs = search needs
 returns-3 : tie.Need-returns-3 Inv-loop μ-loop
 returns-3 c =
     let a = c .before .before .before .before .before .before .before .before .before .args in
-    pairs-half (a .text .now) (a .table .now) (length (a .text .now)) (a .n) (c .before .before .before .before .before .before .loop .i) (a .room) (c .before .before .before .before .before .symbol-at .ensures) (c .before .before .before .before .if1 .left) (c .before .before .before .if2 .left) (c .before .before .symbol-at2 .ensures) (c .before .if3 .taken) (c .fault-at2 .ensures) ∙ sym (c .before .before .before .before .before .before .loop .inv .1)
+    pairs-half (a .text .now) (a .table .now) (length (a .text .now)) (a .n) (c .before .before .before .before .before .before .loop .i) (a .room)
+    (c .before .before .before .before .before .symbol-at .ensures) (c .before .before .before .before .if1 .left) (c .before .before .before .if2 .left)
+    (c .before .before .symbol-at2 .ensures) (c .before .if3 .taken) (c .fault-at2 .ensures)
+    ∙ sym (c .before .before .before .before .before .before .loop .inv .1)
 
 add-i : tie.Need-add-i Inv-loop μ-loop
 add-i c =
@@ -71,8 +81,13 @@ loop-less c =
 loop-again : tie.Need-loop-again Inv-loop μ-loop
 loop-again c =
     let a = c .before .before .before .before .before .before .before .before .args in
-    let h = stands (a .text .now) (a .table .now) (a .n) _ (c .before .symbol-at2 .ensures) (omega (arith, c .if3 .left)) in
-    (omega (arith, h), c .before .before .before .before .before .loop .inv .1 ∙ pairs-more (a .text .now) (a .table .now) (length (a .text .now)) (a .n) (c .before .before .before .before .before .loop .i) (a .room) (c .before .before .before .before .symbol-at .ensures) (c .before .before .before .if1 .left) (c .before .before .if2 .left) (c .before .symbol-at2 .ensures) (c .if3 .left))
+    let h = stands (a .text .now) (a .table .now) (a .n) _ (c .before .symbol-at2 .ensures) (omega (arith, c .if3 .left)) in (
+      omega (arith, h),
+      c .before .before .before .before .before .loop .inv .1
+          ∙ pairs-more (a .text .now) (a .table .now) (length (a .text .now)) (a .n) (c .before .before .before .before .before .loop .i) (a .room)
+          (c .before .before .before .before .symbol-at .ensures) (c .before .before .before .if1 .left) (c .before .before .if2 .left)
+          (c .before .symbol-at2 .ensures) (c .if3 .left),
+    )
 
 pub pairs-spec : {M : Type 1} → statement M
 pairs-spec =

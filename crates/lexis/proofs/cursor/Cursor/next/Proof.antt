@@ -27,7 +27,8 @@ returns-2 : tie.Need-returns-2
 returns-2 c =
     let at-if1 = c .before .before .before .before in
     let start = at-if1 .before .before in
-    step-spaces (start .args .text .now) (start .args .self) (at-if1 .if1 .left) _ (c .before .before .class-of .ensures) _ (c .before .if2 .taken) (c .run-end .ensures)
+    step-spaces (start .args .text .now) (start .args .self) (at-if1 .if1 .left) _ (c .before .before .class-of .ensures) _ (c .before .if2 .taken)
+    (c .run-end .ensures)
 
 add-long-run-end : tie.Need-add-long-run-end
 add-long-run-end c = search needs
@@ -40,7 +41,8 @@ returns-3 c =
     let at-class-of = c .before .before .before in
     let at-if1 = at-class-of .before .before in
     let start = at-if1 .before .before in
-    step-comment (start .args .text .now) (start .args .self) (at-if1 .if1 .left) _ (at-class-of .class-of .ensures) _ (c .before .if3 .taken) (c .long-run-end .ensures)
+    step-comment (start .args .text .now) (start .args .self) (at-if1 .if1 .left) _ (at-class-of .class-of .ensures) _ (c .before .if3 .taken)
+    (c .long-run-end .ensures)
 
 is-mark-requires : tie.Need-is-mark-requires
 is-mark-requires c κs = search needs
@@ -57,7 +59,8 @@ returns-4 c =
     let at-class-of = at-if2 .before in
     let at-if1 = at-class-of .before .before in
     let start = at-if1 .before .before in
-    step-many (start .args .text .now) (start .args .self) (at-if1 .if1 .left) _ (at-class-of .class-of .ensures) (at-if2 .if2 .left) (at-if3 .if3 .left) _ (at-is-mark .is-mark .ensures (at-if4 .if4 .taken)) 8 1 refl (sym (c .before .token-fits .ensures) ∙ not-true _ (c .if5 .taken))
+    step-many (start .args .text .now) (start .args .self) (at-if1 .if1 .left) _ (at-class-of .class-of .ensures) (at-if2 .if2 .left) (at-if3 .if3 .left) _
+    (at-is-mark .is-mark .ensures (at-if4 .if4 .taken)) 8 1 refl (sym (c .before .token-fits .ensures) ∙ not-true _ (c .if5 .taken))
 
 add-t25 : tie.Need-add-t25
 add-t25 c = search needs
@@ -76,7 +79,8 @@ returns-5 c =
     let at-class-of = at-if2 .before in
     let at-if1 = at-class-of .before .before in
     let start = at-if1 .before .before in
-    step-next (start .args .text .now) (start .args .self) (at-if1 .if1 .left) _ (at-class-of .class-of .ensures) (at-if2 .if2 .left) (at-if3 .if3 .left) _ (at-is-mark .is-mark .ensures (at-if4 .if4 .taken)) 8 1 refl (sym (c .before .token-fits .ensures) ∙ not-false _ (c .if5 .left))
+    step-next (start .args .text .now) (start .args .self) (at-if1 .if1 .left) _ (at-class-of .class-of .ensures) (at-if2 .if2 .left) (at-if3 .if3 .left) _
+    (at-is-mark .is-mark .ensures (at-if4 .if4 .taken)) 8 1 refl (sym (c .before .token-fits .ensures) ∙ not-false _ (c .if5 .left))
 
 token-at-requires : tie.Need-token-at-requires
 token-at-requires c κs = search needs
@@ -99,7 +103,8 @@ returns-6 c =
     let at-class-of = at-if2 .before in
     let at-if1 = at-class-of .before .before in
     let start = at-if1 .before .before in
-    step-many (start .args .text .now) (start .args .self) (at-if1 .if1 .left) _ (at-class-of .class-of .ensures) (at-if2 .if2 .left) (at-if3 .if3 .left) _ (at-token-at .token-at .ensures) _ _ (at-kind .kind .given .1) (sym (c .before .token-fits2 .ensures) ∙ not-true _ (c .if6 .taken))
+    step-many (start .args .text .now) (start .args .self) (at-if1 .if1 .left) _ (at-class-of .class-of .ensures) (at-if2 .if2 .left) (at-if3 .if3 .left) _
+    (at-token-at .token-at .ensures) _ _ (at-kind .kind .given .1) (sym (c .before .token-fits2 .ensures) ∙ not-true _ (c .if6 .taken))
 
 add-t32 : tie.Need-add-t32
 add-t32 c =
@@ -130,7 +135,8 @@ returns-7 c =
     let at-class-of = at-if2 .before in
     let at-if1 = at-class-of .before .before in
     let start = at-if1 .before .before in
-    step-fault (start .args .text .now) (start .args .self) (at-if1 .if1 .left) _ (at-class-of .class-of .ensures) (at-if2 .if2 .left) (at-if3 .if3 .left) _ (at-token-at .token-at .ensures) _ (c .before .code .given .1)
+    step-fault (start .args .text .now) (start .args .self) (at-if1 .if1 .left) _ (at-class-of .class-of .ensures) (at-if2 .if2 .left) (at-if3 .if3 .left) _
+    (at-token-at .token-at .ensures) _ (c .before .code .given .1)
 
 returns-8 : tie.Need-returns-8
 returns-8 c =
@@ -141,7 +147,8 @@ returns-8 c =
     let at-class-of = at-if2 .before in
     let at-if1 = at-class-of .before .before in
     let start = at-if1 .before .before in
-    step-next (start .args .text .now) (start .args .self) (at-if1 .if1 .left) _ (at-class-of .class-of .ensures) (at-if2 .if2 .left) (at-if3 .if3 .left) _ (at-token-at .token-at .ensures) _ _ (at-kind .kind .given .1) (sym (c .before .token-fits2 .ensures) ∙ not-false _ (c .if6 .left))
+    step-next (start .args .text .now) (start .args .self) (at-if1 .if1 .left) _ (at-class-of .class-of .ensures) (at-if2 .if2 .left) (at-if3 .if3 .left) _
+    (at-token-at .token-at .ensures) _ _ (at-kind .kind .given .1) (sym (c .before .token-fits2 .ensures) ∙ not-false _ (c .if6 .left))
 
 pub next-spec : {M : Type 1} → statement M
 next-spec =

@@ -22,11 +22,25 @@ before-requires c κs = search needs
 
 returns-3 : tie.Need-returns-3
 unfolding meant
-returns-3 c = let s = c .before .before .before .before .before .before in simp (ne-eqb (s .args .self .code) 0 (c .before .before .before .before .if1 .left), ne-eqb (s .args .other .code) 0 (c .before .before .if2 .left), sym (c .before .before2 .ensures), c .if3 .taken)
+returns-3 c =
+    let s = c .before .before .before .before .before .before in
+    simp (
+      ne-eqb (s .args .self .code) 0 (c .before .before .before .before .if1 .left),
+      ne-eqb (s .args .other .code) 0 (c .before .before .if2 .left),
+      sym (c .before .before2 .ensures),
+      c .if3 .taken,
+    )
 
 returns-4 : tie.Need-returns-4
 unfolding meant
-returns-4 c = let s = c .before .before .before .before .before .before in simp (ne-eqb (s .args .self .code) 0 (c .before .before .before .before .if1 .left), ne-eqb (s .args .other .code) 0 (c .before .before .if2 .left), sym (c .before .before2 .ensures), c .if3 .left)
+returns-4 c =
+    let s = c .before .before .before .before .before .before in
+    simp (
+      ne-eqb (s .args .self .code) 0 (c .before .before .before .before .if1 .left),
+      ne-eqb (s .args .other .code) 0 (c .before .before .if2 .left),
+      sym (c .before .before2 .ensures),
+      c .if3 .left,
+    )
 
 pub earlier-spec : {M : Type 1} → statement M
 earlier-spec = tie.close (tie.spec returns returns-2 before-requires returns-3 returns-4)

@@ -17,7 +17,9 @@ none-requires : tie.Need-none-requires
 none-requires c κs = search needs
 
 returns-2 : tie.Need-returns-2
-returns-2 c = ap meant (c .none .ensures) ∙ no-fault (c .before .before .args .test) (fault (c .before .before .args .code) (c .before .before .args .at)) (c .before .if1 .left)
+returns-2 c =
+    ap meant (c .none .ensures)
+    ∙ no-fault (c .before .before .args .test) (fault (c .before .before .args .code) (c .before .before .args .at)) (c .before .if1 .left)
 
 pub fault-if-spec : {M : Type 1} → statement M
 fault-if-spec = tie.close (tie.spec returns none-requires returns-2)
