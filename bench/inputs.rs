@@ -1,9 +1,19 @@
 //! The texts that are timed.
 
+#[path = "collisions.rs"]
+mod collisions;
+
 /// An operation list and a document that is accepted under it.
 pub struct Pair {
     pub list: Vec<u8>,
     pub document: Vec<u8>,
+}
+
+/// A pair that is timed, and the code that `canon` answers for it.
+pub struct Input {
+    pub name: &'static str,
+    pub pair: Pair,
+    pub code: u32,
 }
 
 /// The texts for `tokens`, with their names.
@@ -20,29 +30,77 @@ pub fn texts() -> Vec<(&'static str, Vec<u8>)> {
     ]
 }
 
-/// The pairs for `check`, with their names. All but the first come near the
-/// limits of 16,384 bytes or 4,096 tokens, in the document or in both texts.
-pub fn pairs() -> Vec<(&'static str, Pair)> {
+/// The pairs for `check` and `canon`. All but the first two come near a limit:
+/// 16,384 bytes or 4,096 tokens of a text, or 384 calls.
+pub fn inputs() -> Vec<Input> {
+    let input = |name, pair| Input {
+        name,
+        pair,
+        code: 0,
+    };
     vec![
-        ("candidate graph", candidates()),
-        ("many calls", many_calls(384)),
-        ("many identifiers", many_identifiers()),
-        ("deep arrays", deep_arrays(95)),
-        ("many parameters", many_parameters()),
+        input("the rules' own example", own_example()),
+        input("typical net, 122 calls", typical_net()),
+        Input {
+            code: 25,
+            ..input("384 calls, 80 operations", many_calls())
+        },
+        input("384 calls, canonical text fits", short_calls(384)),
+        input("960 assigned, 914 used", many_identifiers(24, star)),
+        input("64-byte names, named backwards", long_named()),
+        input("eightfold arrays", deep_arrays()),
+        input(
+            "one array of 2000 extents",
+            one_array("extent", 2000, extent),
+        ),
+        input(
+            "240 numbers of 64 bytes",
+            one_array("scalar", 240, long_number),
+        ),
+        input("1900 short reals", one_array("scalar", 1900, short_real)),
+        input("comments and blanks", comments_and_blanks()),
+        input("31 defaults a call", many_defaults()),
+        input("28 headers of 32 parameters", many_parameters()),
     ]
 }
 
-/// The pairs for `canon`, with their names: those for `check`, of which two have
-/// a canonical text beyond the limits; these two with fewer calls, so that it
-/// keeps them; and one whose canonical text is nearly all defaults.
-pub fn canon_pairs() -> Vec<(&'static str, Pair)> {
-    let mut all = pairs();
-    all.extend([
-        ("fewer calls", many_calls(120)),
-        ("fewer deep arrays", deep_arrays(91)),
-        ("31 defaults a call", many_defaults()),
-    ]);
-    all
+/// Pairs whose document grows from about 2 to about 16 KB, of two sorts.
+pub fn growth() -> [(&'static str, [Input; 4]); 2] {
+    let input = |name, pair| Input {
+        name,
+        pair,
+        code: 0,
+    };
+    let identifiers = [3, 6, 12, 24].map(|count| many_identifiers(count, star));
+    let calls = [48, 96, 192, 384].map(short_calls);
+    [("identifiers", identifiers), ("calls", calls)]
+        .map(|(name, pairs)| (name, pairs.map(|pair| input(name, pair))))
+}
+
+/// A pair whose names are made to collide in the library's index of names: 960
+/// identifiers of the document are on one chain, and 864 parameters of the list.
+pub fn colliding() -> Input {
+    let names = collisions::names(960);
+    let Pair { list, document } = many_identifiers(24, |place| names[place].clone());
+    let operations = names[..27 * 32]
+        .chunks(32)
+        .enumerate()
+        .map(|(place, names)| {
+            let parameters = names.iter().map(|name| format!("{name}:tensor"));
+            format!(
+                "fragment turn_{place}({})->(y:tensor)\n",
+                joined(parameters)
+            )
+        });
+    let operations: String = operations.collect();
+    Input {
+        name: "names that collide",
+        pair: Pair {
+            list: [&list[..], operations.as_bytes()].concat(),
+            document,
+        },
+        code: 0,
+    }
 }
 
 /// So many lines in a row; the counts come near the limits of 16,384 bytes or
@@ -89,22 +147,64 @@ fn strings(place: usize) -> String {
     format!("'band {place}', \"constant\", 'guide star table of the northern sky',\n")
 }
 
-fn candidates() -> Pair {
-    let list: &[u8] = include_bytes!("../examples/declarations.nnef");
-    let document: &[u8] = include_bytes!("../examples/candidates.nnef");
+/// The example of the rules.
+fn own_example() -> Pair {
+    let list = "fragment external(shape: extent[]) -> (output: tensor) \
+         fragment scale(x: tensor, by: scalar = 1) -> (y: tensor)";
+    let document = "version 1.0 graph win(px) -> (out) \
+         { px = external(shape=[01,9]); out = scale(px, by=0.50) }";
     Pair {
-        list: list.to_vec(),
-        document: document.to_vec(),
+        list: list.into(),
+        document: document.into(),
     }
 }
 
-/// So many calls under 80 operations.
-fn many_calls(count: usize) -> Pair {
+/// A net of 24 blocks of five calls under a list of usual operations.
+fn typical_net() -> Pair {
+    let list: &[u8] = include_bytes!("typical_list.nnef");
+    let head = "version 1.0\n\n# A net of residual blocks.\ngraph net(input) -> (output)\n{\n    \
+         input = external(shape = [1, 3, 224, 224]);\n";
+    let blocks: String = (0..24).map(block).collect();
+    let end = "    output = softmax(pool24, axes = [1]);\n}\n";
+    Pair {
+        list: list.to_vec(),
+        document: [head, &blocks, end].concat().into_bytes(),
+    }
+}
+
+/// A convolution with its variables, and what comes after it.
+fn block(place: usize) -> String {
+    let number = place + 1;
+    let channels = 16 << (place / 6);
+    let before = match place {
+        0 => "input".to_string(),
+        _ => format!("pool{place}"),
+    };
+    let last = if place % 6 == 5 {
+        format!(
+            "max_pool(relu{number}, size = [1, 1, 2, 2], stride = [1, 1, 2, 2], border = 'ignore')"
+        )
+    } else {
+        format!("add(relu{number}, {before})")
+    };
+    format!(
+        "\n    # Block {number}.\n    \
+         filter{number} = variable(shape = [{channels}, {channels}, 3, 3], label = 'block{number}/filter');\n    \
+         bias{number} = variable(shape = [1, {channels}], label = 'block{number}/bias');\n    \
+         conv{number} = conv({before}, filter{number}, bias{number}, \
+         padding = [(1, 1), (1, 1)], stride = [1, 1], dilation = [1, 1]);\n    \
+         relu{number} = relu(conv{number});\n    \
+         pool{number} = {last};\n"
+    )
+}
+
+/// 384 calls under 80 operations; the defaults make the canonical text too long.
+fn many_calls() -> Pair {
     pair(
         lines(79, correction),
         "star_0",
-        &format!("star_{}", count - 1),
-        lines(count - 1, correction_call),
+        "star_383",
+        lines(383, correction_call),
     )
 }
 
@@ -131,17 +231,47 @@ fn correction_call(place: usize) -> String {
     )
 }
 
-/// 1,001 identifiers and 900 uses; every call but the first assigns 40.
-fn many_identifiers() -> Pair {
-    let list = b"fragment match(stars: tensor[]) -> (matches: tensor[])\n".to_vec();
-    pair(list, "star0", "star1000", lines(25, matches))
+/// So many calls, most of one short argument under 80 operations.
+fn short_calls(count: usize) -> Pair {
+    let last = format!("corrected_{}", count - 1);
+    pair(
+        lines(79, turn),
+        "corrected_0",
+        &last,
+        lines(count - 1, turn_call),
+    )
 }
 
-/// A call that assigns the next 40 identifiers and uses 36 of those before.
-fn matches(place: usize) -> String {
+fn turn(place: usize) -> String {
+    format!("fragment turn_{place}(x: tensor) -> (y: tensor)\n")
+}
+
+fn turn_call(place: usize) -> String {
+    let operation = place * 7 % 79;
+    format!(
+        "corrected_{} = turn_{operation}(corrected_{place});\n",
+        place + 1
+    )
+}
+
+/// So many calls that assign 40 identifiers and use 38 each; with 24 there are
+/// 960 and 914, for the last call assigns 39 and the first two use 39.
+fn many_identifiers(count: usize, name: impl Fn(usize) -> String) -> Pair {
+    let list = b"fragment match(stars: tensor[]) -> (matches: tensor[])\n".to_vec();
+    let calls: String = (0..count)
+        .map(|place| matches(place, count, &name))
+        .collect();
+    let (input, output) = (name(0), name(40 * count - 1));
+    pair(list, &input, &output, calls.into_bytes())
+}
+
+/// A call that assigns the next identifiers and uses some of those before.
+fn matches(place: usize, count: usize, name: impl Fn(usize) -> String) -> String {
     let before = 40 * place + 1;
-    let assigned = (before..before + 40).map(star);
-    let used = (0..36).map(|n| star((place + n) * 389 % before));
+    let end = (before + 40).min(40 * count);
+    let uses = if place < 2 { 39 } else { 38 };
+    let used = (0..uses).map(|n| name((place + n) * 389 % before));
+    let assigned = (before..end).map(&name);
     format!("[{}] = match([{}]);\n", joined(assigned), joined(used))
 }
 
@@ -149,14 +279,14 @@ fn star(place: usize) -> String {
     format!("star{place}")
 }
 
-/// So many calls, with eight brackets open in every default, and in two
-/// arguments of every call but the first.
-fn deep_arrays(count: usize) -> Pair {
+/// 60 operations and 91 calls, with eight brackets open in every default, and in
+/// two arguments of every call but the first.
+fn deep_arrays() -> Pair {
     pair(
         lines(60, deep_operation),
         "star0",
-        &star(count - 1),
-        lines(count - 1, deep_call),
+        "star90",
+        lines(90, deep_call),
     )
 }
 
@@ -183,13 +313,94 @@ fn nested(item: &str) -> String {
     format!("{}{item}{}", "[".repeat(8), "]".repeat(8))
 }
 
-/// Operations of 32 parameters, and calls that name all of them.
+/// Operations and calls with names of 64 bytes; a call names all parameters, the
+/// last one first.
+fn long_named() -> Pair {
+    let last = long_name("star", 6);
+    pair(
+        lines(6, long_operation),
+        &long_name("star", 0),
+        &last,
+        lines(6, long_call),
+    )
+}
+
+/// A name of 64 bytes that differs from others at its end.
+fn long_name(begin: &str, number: usize) -> String {
+    format!("{begin:_<61}{number:03}")
+}
+
+fn long_operation(place: usize) -> String {
+    let limits = (1..32).map(|n| format!("{}: scalar", long_name("limit", n)));
+    format!(
+        "fragment {}({}: tensor, {}) -> (y: tensor)\n",
+        long_name("choose", place),
+        long_name("limit", 0),
+        joined(limits)
+    )
+}
+
+fn long_call(place: usize) -> String {
+    let limits = (1..32)
+        .rev()
+        .map(|n| format!("{} = {n}", long_name("limit", n)));
+    format!(
+        "{} = {}({}, {} = {});\n",
+        long_name("star", place + 1),
+        long_name("choose", place),
+        joined(limits),
+        long_name("limit", 0),
+        long_name("star", place)
+    )
+}
+
+/// A call whose argument is one array of so many numbers.
+fn one_array(item: &str, count: usize, number: fn(usize) -> String) -> Pair {
+    let list = format!("fragment weigh(x: tensor, by: {item}[]) -> (y: tensor)\n");
+    let numbers = joined((0..count).map(number));
+    let call = format!("star1 = weigh(star0, by = [{numbers}]);\n");
+    pair(list.into_bytes(), "star0", "star1", call.into_bytes())
+}
+
+fn extent(place: usize) -> String {
+    (place * 104_729 % 1_000_000).to_string()
+}
+
+/// A number of 64 bytes with 18 digits that count.
+fn long_number(place: usize) -> String {
+    let digits = 123_456_789_012_345_671 + 1_000 * place;
+    format!("{:020}.{:010}{digits}{:010}e-{}", 0, 0, 0, 100 + place)
+}
+
+fn short_real(place: usize) -> String {
+    format!("{}.{:02}", place % 10, place * 7 % 100)
+}
+
+/// Few calls among comments, blanks and empty lines.
+fn comments_and_blanks() -> Pair {
+    let calls = (0..20).map(|place| {
+        let comments: String = (0..7).map(|n| comment(7 * place + n)).collect();
+        format!(
+            "{comments}\n\t{:20}star{}   =   scale( {:40} star{place} ,\n{:60}by = 0.5 )   ;\n\n",
+            "",
+            place + 1,
+            "",
+            ""
+        )
+    });
+    let list = "# The only operation beside external.\n\
+         fragment scale( x : tensor , by : scalar = 1 ) -> ( y : tensor )\n";
+    let calls: String = calls.collect();
+    pair(list.into(), "star0", "star20", calls.into_bytes())
+}
+
+/// 28 operations of 32 parameters, and calls that name all of them.
 fn many_parameters() -> Pair {
     pair(
-        lines(25, wide_operation),
+        lines(28, wide_operation),
         "star0",
-        "star30",
-        lines(30, wide_call),
+        "star27",
+        lines(27, wide_call),
     )
 }
 
@@ -197,10 +408,7 @@ fn many_parameters() -> Pair {
 const TYPES: [&str; 4] = ["tensor", "scalar", "extent", "logical"];
 
 fn wide_operation(place: usize) -> String {
-    let parameters = (0..32).map(|n| match n % 4 {
-        1 => format!("limit_{n}: scalar = {n}.5"),
-        rest => format!("limit_{n}: {}", TYPES[rest]),
-    });
+    let parameters = (0..32).map(|n| format!("limit{n}:{}", TYPES[n % 4]));
     format!(
         "fragment choose_{place}({}) -> (y: tensor)\n",
         joined(parameters)
@@ -216,11 +424,10 @@ fn wide_call(place: usize) -> String {
             2 => place.to_string(),
             _ => "true".to_string(),
         };
-        format!("limit_{n} = {value}")
+        format!("limit{n} = {value}")
     });
-    let operation = place % 25;
     format!(
-        "{} = choose_{operation}({});\n",
+        "{} = choose_{place}({});\n",
         star(place + 1),
         joined(arguments)
     )

@@ -4,8 +4,10 @@
 pub mod cases;
 
 use crate::lent::{byte_pattern, lent, pattern, LentText, GUARD};
+use crate::options::Options;
 use crate::processors::on_all_processors;
 use crate::program::{codes_met, shown};
+use crate::Total;
 use nnef_random::{family, Lines, Pair, Rng, GOOD_SORTS, SORTS};
 
 /// The room that is enough: words of two work areas, bytes of the output.
@@ -81,18 +83,23 @@ impl Outcome {
     }
 }
 
-/// Runs every case and says whether all is right.
-pub fn run(count: u64, seed: u64) -> bool {
+/// Runs every case and says how many are wrong.
+pub fn run(options: &Options) -> Total {
+    let [pairs, groups] = [options.cases().count(), options.families().count()];
     let written = wrong_written();
-    let random = wrong_random_pairs(count, seed);
-    let families = wrong_families(count / 10, seed);
+    let random = wrong_random_pairs(options);
+    let families = wrong_families(options);
     println!(
         "canon: {} written cases, {written} wrong",
         cases::CASES.len()
     );
-    println!("canon: {count} random pairs, {random} wrong");
-    println!("canon: {} random families, {families} wrong", count / 10);
-    written + random + families == 0
+    println!("canon: {pairs} random pairs, {random} wrong");
+    println!("canon: {groups} random families, {families} wrong");
+    Total {
+        written: cases::CASES.len(),
+        random: pairs + groups,
+        wrong: written + random + families,
+    }
 }
 
 /// The number of wrong outcomes on written pairs.
@@ -123,9 +130,10 @@ fn wrong_written() -> usize {
 }
 
 /// The number of random pairs on which some side is wrong.
-fn wrong_random_pairs(count: u64, seed: u64) -> usize {
+fn wrong_random_pairs(options: &Options) -> usize {
     let mut by_code = [0usize; 27];
-    let results = on_all_processors(count, |case| random_pair(seed, case));
+    let pair = |case| random_pair(options.seed, case);
+    let results = on_all_processors("canon", options.cases(), pair);
     for (code, _) in &results {
         by_code[*code as usize] += 1;
     }
@@ -149,8 +157,9 @@ fn random_pair(seed: u64, case: u64) -> (u32, Option<String>) {
 }
 
 /// The number of random families on which some side is wrong.
-fn wrong_families(count: u64, seed: u64) -> usize {
-    let results = on_all_processors(count, |case| random_family(seed, case));
+fn wrong_families(options: &Options) -> usize {
+    let family = |case| random_family(options.seed, case);
+    let results = on_all_processors("canon, families", options.families(), family);
     printed(results.into_iter().flatten())
 }
 

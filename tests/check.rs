@@ -1,9 +1,13 @@
 //! The operations `declarations` and `check`: written cases, then random pairs.
 
 pub mod cases;
+mod orders;
 
 use crate::lent::{lent, pattern, LentText, GUARD};
+use crate::options::Options;
 use crate::program::{codes_met, shown};
+use crate::progress::Progress;
+use crate::Total;
 use nnef_random::{Lines, Pair, Rng, SORTS};
 
 /// Words that are asked for: two work areas, the call table, the wire table.
@@ -62,18 +66,28 @@ struct Outcome {
     words: Vec<Vec<u32>>,
 }
 
-/// Runs every case and says whether all is right.
-pub fn run(count: u64, seed: u64) -> bool {
+/// Runs every case and says how many are wrong.
+pub fn run(options: &Options) -> Total {
+    let count = options.cases().count();
     let lists = wrong_lists();
     let pairs = wrong_pairs();
-    let random = wrong_random_pairs(count, seed);
+    let orders = wrong_orders();
+    let random = wrong_random_pairs(options);
     println!(
         "declarations: {} written cases, {lists} wrong",
         cases::LISTS.len()
     );
     println!("check: {} written cases, {pairs} wrong", cases::PAIRS.len());
+    println!(
+        "check: {} documents with two faults, {orders} wrong",
+        orders::orders().len()
+    );
     println!("declarations and check: {count} random pairs, {random} wrong");
-    lists + pairs + random == 0
+    Total {
+        written: cases::LISTS.len() + cases::PAIRS.len() + orders::orders().len(),
+        random: count,
+        wrong: lists + pairs + orders + random,
+    }
 }
 
 /// The number of wrong outcomes on written lists. A list that is refused for
@@ -129,13 +143,49 @@ fn wrong_pairs() -> usize {
     wrong
 }
 
+/// The number of wrong outcomes on documents with two faults, and of pairs of
+/// codes that can be had and are in none.
+fn wrong_orders() -> usize {
+    let orders = orders::orders();
+    let mut wrong = 0;
+    for order in &orders {
+        let list = order.list.bytes();
+        for (document, answer) in [order.with_both(), order.mended()] {
+            for side in SIDES {
+                let checked = checked(side, &list, &document, ROOM);
+                if checked.answer != answer || checked.words != words_after(answer, ROOM, &[], &[])
+                {
+                    wrong += 1;
+                    println!("{} is wrong on {}", side.name, shown(&document));
+                    println!("  codes {}, then {}", order.first, order.second);
+                    println!("  answer {:?}, to be {answer:?}", checked.answer);
+                }
+            }
+        }
+    }
+    for first in orders::CODES {
+        for second in orders::CODES.into_iter().filter(|code| *code != first) {
+            let met = orders
+                .iter()
+                .any(|order| [order.first, order.second] == [first, second]);
+            if met != orders::can_be_had([first, second]) {
+                wrong += 1;
+                println!("code {first} before {second}: {met}");
+            }
+        }
+    }
+    wrong
+}
+
 /// The number of random pairs that break a law on some side, or on which the
 /// sides differ.
-fn wrong_random_pairs(count: u64, seed: u64) -> usize {
+fn wrong_random_pairs(options: &Options) -> usize {
     let mut by_code = [0usize; 25];
     let mut wrong = 0;
-    for case in 0..count {
-        let mut rng = Rng::for_case(seed, case);
+    let progress = Progress::new("check", options.cases().count() as u64);
+    for case in options.cases() {
+        progress.step();
+        let mut rng = Rng::for_case(options.seed, case);
         let (sort, make) = rng.pick(SORTS);
         let pair = make(&mut rng, Lines::Any);
         let room = room(&mut rng);

@@ -2,7 +2,9 @@
 //! measures its stack.
 //!
 //! Arguments: the number of random texts, and of random pairs of texts
-//! (100000; of families of pairs a tenth), and the seed (1).
+//! (100000; of families of pairs a tenth), and the seed (1). `--only OPERATION`
+//! runs one part alone, `--case N` of the random cases one alone, `--seed S`
+//! is the seed.
 
 #[path = "../include/nnef.rs"]
 mod library;
@@ -10,26 +12,57 @@ mod library;
 mod canon;
 mod check;
 mod lent;
+mod options;
 mod processors;
 mod program;
+mod progress;
 mod stack;
 mod tokens;
 mod written;
 
-use program::number;
+use options::Options;
 use std::process::ExitCode;
 
+/// What one part of the tests has run.
+pub struct Total {
+    written: usize,
+    random: usize,
+    wrong: usize,
+}
+
 fn main() -> ExitCode {
-    let mut arguments = std::env::args().skip(1);
-    let count = number(arguments.next(), 100_000);
-    let seed = number(arguments.next(), 1);
-    let tokens = tokens::run(count, seed);
-    let check = check::run(count, seed);
-    let canon = canon::run(count, seed);
-    let stack = stack::run(seed);
-    if tokens && check && canon && stack {
+    let options = match Options::read(std::env::args().skip(1)) {
+        Ok(options) => options,
+        Err(message) => {
+            eprintln!("{message}");
+            return ExitCode::from(2);
+        }
+    };
+    let totals: Vec<Total> = options::OPERATIONS
+        .iter()
+        .filter(|operation| options.takes(operation))
+        .map(|operation| run(operation, &options))
+        .collect();
+    let sum = |part: fn(&Total) -> usize| totals.iter().map(part).sum::<usize>();
+    let wrong = sum(|total| total.wrong);
+    println!(
+        "total: {} written and {} random cases, seed {}: {wrong} wrong",
+        sum(|total| total.written),
+        sum(|total| total.random),
+        options.seed
+    );
+    if wrong == 0 {
         ExitCode::SUCCESS
     } else {
         ExitCode::FAILURE
+    }
+}
+
+fn run(operation: &str, options: &Options) -> Total {
+    match operation {
+        "tokens" => tokens::run(options),
+        "check" => check::run(options),
+        "canon" => canon::run(options),
+        _ => stack::run(options.seed),
     }
 }

@@ -2,19 +2,21 @@
 //! one byte, and the deepest byte that has changed is the deepest one touched.
 
 use crate::library;
-use crate::{canon, check, tokens};
+use crate::{canon, check, tokens, Total};
 use nnef_random::{Lines, Rng, SORTS};
 use std::ffi::c_void;
 use std::ptr;
 
+// What the bench says of its inputs is not read here.
+#[allow(dead_code)]
 #[path = "../bench/inputs.rs"]
 mod inputs;
 
 /// Random pairs that are run, beside those that are timed and those of written cases.
 const RANDOM: u64 = 2_000;
 
-/// Measures every operation and says whether each keeps to what is stated of it.
-pub fn run(seed: u64) -> bool {
+/// Measures every operation and says how many take more than is stated of them.
+pub fn run(seed: u64) -> Total {
     let pairs = pairs(seed);
     let lists = pairs.iter().map(|(list, _)| list);
     let documents = pairs.iter().map(|(_, document)| document);
@@ -68,7 +70,12 @@ pub fn run(seed: u64) -> bool {
         })
     });
     let canon = keeps("canon", canon.max(), library::CANON_STACK);
-    tokens && declarations && check && canon
+    let kept = [tokens, declarations, check, canon];
+    Total {
+        written: kept.len(),
+        random: 0,
+        wrong: kept.iter().filter(|keeps| !**keeps).count(),
+    }
 }
 
 /// Says what was measured, and whether it is within what is stated.
@@ -88,11 +95,12 @@ fn pairs(seed: u64) -> Vec<(Vec<u8>, Vec<u8>)> {
         let pair = make(&mut rng, Lines::Any);
         (pair.list, pair.document)
     });
-    let timed = inputs::pairs().into_iter().chain(inputs::canon_pairs());
+    let inputs = inputs::inputs().into_iter();
+    let timed = inputs.chain([inputs::colliding()]).map(|input| input.pair);
     checked
         .map(|case| (case.list.bytes(), case.document.bytes()))
         .chain(written.map(|case| (case.list.bytes(), case.document.bytes())))
-        .chain(timed.map(|(_, pair)| (pair.list, pair.document)))
+        .chain(timed.map(|pair| (pair.list, pair.document)))
         .chain(NESTS.iter().map(|nest| deepest(*nest)))
         .chain(random)
         .collect()

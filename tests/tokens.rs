@@ -5,7 +5,10 @@ mod inputs;
 
 use crate::lent::{lent, pattern, LentText, GUARD};
 use crate::library;
+use crate::options::Options;
 use crate::program::{codes_met, shown};
+use crate::progress::Progress;
+use crate::Total;
 use cases::Case;
 use nnef_random::Rng;
 
@@ -29,16 +32,19 @@ struct Outcome {
     words: Vec<u32>,
 }
 
-/// Runs every case and says whether all is right.
-pub fn run(count: u64, seed: u64) -> bool {
+/// Runs every case and says how many are wrong.
+pub fn run(options: &Options) -> Total {
+    let written = cases::CASES.len();
+    let random = options.cases().count();
     let wrong = run_written();
-    let different = run_random(count, seed);
-    println!(
-        "tokens: {} written cases, {wrong} wrong",
-        cases::CASES.len()
-    );
-    println!("tokens: {count} cases, {different} differences");
-    wrong == 0 && different == 0
+    let different = run_random(options);
+    println!("tokens: {written} written cases, {wrong} wrong");
+    println!("tokens: {random} cases, {different} differences");
+    Total {
+        written,
+        random,
+        wrong: wrong + different,
+    }
 }
 
 /// Runs both sides on every written case and gives the number of wrong outcomes.
@@ -78,11 +84,13 @@ fn is_as_written(outcome: &Outcome, case: &Case) -> bool {
 }
 
 /// Compares both sides on random cases and gives the number of differences.
-fn run_random(count: u64, seed: u64) -> usize {
+fn run_random(options: &Options) -> usize {
     let mut by_code = [0usize; 9];
     let mut different = 0;
-    for case in 0..count {
-        let mut rng = Rng::for_case(seed, case);
+    let progress = Progress::new("tokens", options.cases().count() as u64);
+    for case in options.cases() {
+        progress.step();
+        let mut rng = Rng::for_case(options.seed, case);
         let (sort, make) = rng.pick(inputs::SORTS);
         let text = make(&mut rng);
         let table_words = table_words(&mut rng);

@@ -26,7 +26,8 @@ impl Text {
         self.marked().find('@')
     }
 
-    fn marked(self) -> String {
+    /// The text with its marks.
+    pub fn marked(self) -> String {
         match self {
             Once(text) => text.to_string(),
             Body(calls) => format!("{BODY}{calls}}}"),
@@ -49,7 +50,8 @@ pub fn at_mark(answer: [u32; 4], list: Text, document: Text) -> [u32; 4] {
     }
 }
 
-const BODY: &str = "version 1.0 graph g(a)->(z){a=external(shape=[1]);";
+/// What stands before the calls of a body.
+pub const BODY: &str = "version 1.0 graph g(a)->(z){a=external(shape=[1]);";
 const CANONICAL_BODY: &str = "version 1.0\ngraph g(a)->(z)\n{\na=external(shape=[1]);\n";
 
 /// The list and the documents of the worked example.

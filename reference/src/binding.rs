@@ -1,53 +1,90 @@
 //! Which parameter each argument of a call binds.
 
-use crate::fitting;
-use crate::tree::{Argument, Name, Operation};
+use crate::token::Token;
+use crate::tree::{List, Operation, Parameter};
 
 /// What becomes of an argument.
-#[derive(Clone, Copy, PartialEq, Eq)]
+#[derive(Clone, Copy, Debug, PartialEq, Eq)]
 pub enum Binding {
     /// It binds the parameter at this place.
-    Binds(usize),
+    Binds(u8),
     /// It is positional and may not be: it binds nothing.
     Misplaced,
     /// It is named, and its name is unknown or bound already: it binds nothing.
     BadLabel,
 }
 
-/// What becomes of each argument of a call of this operation.
-pub fn bindings(operation: &Operation, arguments: &[Argument]) -> Vec<Binding> {
-    let mut bindings = Vec::with_capacity(arguments.len());
-    let mut after_named = false;
-    for (place, argument) in arguments.iter().enumerate() {
-        bindings.push(match argument.label {
-            None if !after_named && may_be_positional(operation, place) => Binding::Binds(place),
-            None => Binding::Misplaced,
-            Some(label) => match parameter_named(operation, label) {
-                Some(index) if !bindings.contains(&Binding::Binds(index)) => Binding::Binds(index),
-                _ => Binding::BadLabel,
-            },
-        });
-        after_named |= argument.label.is_some();
+/// The arguments of one call, bound one after the other.
+pub struct Binder<'l> {
+    list: &'l List<'l>,
+    parameters: &'l [Parameter],
+    /// The parameters that are bound, a bit for each; the list has no fault, so
+    /// there are at most 32.
+    bound: u32,
+    /// The place of the next argument.
+    place: usize,
+    after_named: bool,
+    /// The parameter behind the one bound last: often the next one.
+    guess: usize,
+}
+
+impl<'l> Binder<'l> {
+    pub fn new(list: &'l List<'l>, operation: &Operation) -> Binder<'l> {
+        Binder {
+            list,
+            parameters: operation.parameters(list),
+            bound: 0,
+            place: 0,
+            after_named: false,
+            guess: 0,
+        }
     }
-    bindings
-}
 
-/// The first parameter without default that nothing is bound to.
-pub fn first_unbound(operation: &Operation, bindings: &[Binding]) -> Option<usize> {
-    let mut parameters = operation.parameters.iter().enumerate();
-    let unbound = parameters.find(|(index, parameter)| {
-        parameter.default.is_none() && !bindings.contains(&Binding::Binds(*index))
-    });
-    unbound.map(|(index, _)| index)
-}
+    /// What becomes of the next argument; its label's bytes are in `text`.
+    pub fn bind(&mut self, label: Option<Token>, text: &[u8]) -> Binding {
+        let binding = match label {
+            None => self.positional(),
+            Some(label) => self.named(label.bytes(text)),
+        };
+        self.place += 1;
+        self.after_named |= label.is_some();
+        if let Binding::Binds(index) = binding {
+            self.bound |= 1 << index;
+            self.guess = usize::from(index) + 1;
+        }
+        binding
+    }
 
-/// Whether there is a parameter at this place, and it is all tensor.
-fn may_be_positional(operation: &Operation, place: usize) -> bool {
-    let parameter = operation.parameters.get(place);
-    parameter.is_some_and(|parameter| fitting::is_all_tensor(&parameter.ty))
-}
+    /// The first parameter without default that nothing is bound to.
+    pub fn first_unbound(&self, operation: &Operation) -> Option<u32> {
+        let missing = operation.required & !self.bound;
+        (missing != 0).then(|| missing.trailing_zeros())
+    }
 
-fn parameter_named(operation: &Operation, label: Name) -> Option<usize> {
-    let mut names = operation.parameters.iter().map(|p| p.name.bytes);
-    names.position(|name| name == label.bytes)
+    fn positional(&self) -> Binding {
+        match self.parameters.get(self.place) {
+            Some(parameter)
+                if !self.after_named && parameter.ty.is_all_tensor(&self.list.types) =>
+            {
+                Binding::Binds(self.place as u8)
+            }
+            _ => Binding::Misplaced,
+        }
+    }
+
+    fn named(&self, label: &[u8]) -> Binding {
+        match self.parameter_named(label) {
+            Some(index) if self.bound & (1 << index) == 0 => Binding::Binds(index as u8),
+            _ => Binding::BadLabel,
+        }
+    }
+
+    fn parameter_named(&self, label: &[u8]) -> Option<usize> {
+        let guess = self.parameters.get(self.guess);
+        if guess.is_some_and(|guess| guess.name.bytes(self.list.text) == label) {
+            return Some(self.guess);
+        }
+        let (number, _) = self.list.names.find(label)?;
+        self.parameters.iter().position(|p| p.number == number)
+    }
 }

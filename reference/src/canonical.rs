@@ -1,81 +1,188 @@
-//! The one text of a plan.
+//! The one text of an accepted document. A value's tokens are those of the
+//! document or of the default, in their order; only leaves are spelt anew.
 
+use crate::binding::Binding;
+use crate::graph::Graph;
 use crate::limits;
-use crate::plan::{Call, Plan, Value};
-use crate::tree::Operation;
-use std::io::Write;
+use crate::number;
+use crate::token::{Span, Symbol, Token};
+use crate::tree::{Call, Document, Item, List, Parameter, Type};
 
-/// A text that is written token by token.
-#[derive(Default)]
-pub struct Text {
-    pub bytes: Vec<u8>,
-    tokens: usize,
-}
-
-/// The canonical text of a plan under its operation list.
-pub fn canonical_text(plan: &Plan, list: &[Operation]) -> Text {
-    let mut text = Text::default();
-    text.token(b"version");
-    text.blank(b' ');
-    text.token(b"1.0");
-    text.blank(b'\n');
-    text.token(b"graph");
-    text.blank(b' ');
-    text.token(plan.graph);
-    text.bracketed(b"(", &plan.inputs, b")", |text, name| text.token(name));
-    text.token(b"->");
-    text.bracketed(b"(", &plan.outputs, b")", |text, name| text.token(name));
-    text.blank(b'\n');
-    text.token(b"{");
-    text.blank(b'\n');
-    for call in &plan.calls {
-        text.call(call, &list[call.operation]);
-        text.blank(b'\n');
+/// The canonical text of a document under its operation list, unless it is
+/// longer than a text may be.
+pub fn canonical_text(list: &List, document: &Document, graph: &Graph) -> Option<Vec<u8>> {
+    let mut writer = Writer::new(list, document);
+    writer.head();
+    for (call, [operation, ..]) in document.calls.iter().zip(&graph.calls) {
+        writer.call(
+            call,
+            *operation as usize,
+            call.arguments.of(&graph.bindings),
+        );
+        if !writer.keeps_limits() {
+            return None;
+        }
     }
-    text.token(b"}");
-    text.blank(b'\n');
-    text
+    writer.marks(b"}\n", 1);
+    writer.keeps_limits().then_some(writer.bytes)
 }
 
-impl Text {
-    /// Whether the text is no longer than a text may be.
-    pub fn keeps_limits(&self) -> bool {
+struct Writer<'w> {
+    list: &'w List<'w>,
+    document: &'w Document<'w>,
+    bytes: Vec<u8>,
+    tokens: usize,
+    /// For each parameter of the list where its default was written first: the
+    /// start and the end in `bytes`, or zeros. It is copied from there.
+    defaults: Vec<(u32, u32)>,
+}
+
+/// No bound value: the default is taken.
+const UNBOUND: Span = Span { first: 0, end: 0 };
+
+impl<'w> Writer<'w> {
+    fn new(list: &'w List<'w>, document: &'w Document<'w>) -> Writer<'w> {
+        Writer {
+            list,
+            document,
+            bytes: Vec::with_capacity(2 * document.text.len() + 256),
+            tokens: 0,
+            defaults: vec![(0, 0); list.parameters.len()],
+        }
+    }
+
+    /// Whether the text so far is no longer than a text may be.
+    fn keeps_limits(&self) -> bool {
         self.bytes.len() <= limits::TEXT_BYTES && self.tokens <= limits::TOKENS
     }
 
-    fn call(&mut self, call: &Call, operation: &Operation) {
-        match &call.left {
-            Value::Tuple(items) => self.separated(items, Text::value),
-            left => self.value(left),
-        }
-        self.token(b"=");
-        self.token(operation.name.bytes);
-        let named = operation.parameters.iter().zip(&call.values);
-        self.bracketed(b"(", named, b")", |text, (parameter, value)| {
-            text.token(parameter.name.bytes);
-            text.token(b"=");
-            text.value(value);
-        });
-        self.token(b";");
+    fn head(&mut self) {
+        let document = self.document;
+        self.marks(b"version 1.0\ngraph ", 3);
+        self.name(document.name, document.text);
+        self.marks(b"(", 1);
+        self.left(document.inputs.of(&document.tokens));
+        self.marks(b")->(", 3);
+        self.left(document.outputs.of(&document.tokens));
+        self.marks(b")\n{\n", 2);
     }
 
-    fn value(&mut self, value: &Value) {
-        match value {
-            Value::Name(name) => self.token(name),
-            Value::Extent(value) => self.written(format_args!("{value}")),
-            Value::Number(number) => {
-                self.written(format_args!("{}e{}", number.mantissa, number.exponent));
+    fn call(&mut self, call: &Call, operation: usize, bindings: &[Binding]) {
+        let (list, document) = (self.list, self.document);
+        self.left(without_brackets(call.left.of(&document.tokens), call.bare));
+        self.marks(b"=", 1);
+        let operation = &list.operations[operation];
+        self.name(operation.name, list.text);
+        let mut values = [UNBOUND; limits::PARAMETERS];
+        for (argument, binding) in call.arguments.of(&document.arguments).iter().zip(bindings) {
+            if let Binding::Binds(place) = *binding {
+                values[usize::from(place)] = argument.value;
             }
-            Value::Logical(true) => self.token(b"true"),
-            Value::Logical(false) => self.token(b"false"),
-            Value::String(content) => self.string(content),
-            Value::Array(items) => self.bracketed(b"[", items, b"]", Text::value),
-            Value::Tuple(items) => self.bracketed(b"(", items, b")", Text::value),
         }
+        let first = usize::from(operation.parameters.first);
+        for (place, parameter) in operation.parameters(list).iter().enumerate() {
+            self.marks(if place == 0 { b"(" } else { b"," }, 1);
+            self.name(parameter.name, list.text);
+            self.marks(b"=", 1);
+            match values[place] {
+                UNBOUND => self.default(parameter, first + place),
+                value => self.value(value.of(&document.tokens), document.text, parameter.ty),
+            }
+        }
+        self.marks(b");\n", 2);
+    }
+
+    /// The default of the parameter at this place of the list.
+    fn default(&mut self, parameter: &Parameter, place: usize) {
+        let (start, end) = self.defaults[place];
+        if end > 0 {
+            self.bytes.extend_from_within(start as usize..end as usize);
+            self.tokens += parameter.default.len();
+            return;
+        }
+        let start = self.bytes.len() as u32;
+        let list = self.list;
+        self.value(parameter.default.of(&list.tokens), list.text, parameter.ty);
+        self.defaults[place] = (start, self.bytes.len() as u32);
+    }
+
+    /// Names, brackets and commas as they are written.
+    fn left(&mut self, tokens: &[Token]) {
+        self.tokens += tokens.len();
+        self.leaves(tokens, self.document.text, Item::Tensor);
+    }
+
+    /// A value that fits its type.
+    fn value(&mut self, tokens: &[Token], text: &[u8], ty: Type) {
+        self.tokens += tokens.len();
+        if let Item::Tuple(_) = ty.item {
+            self.typed(tokens, text, ty);
+        } else {
+            self.leaves(tokens, text, ty.item);
+        }
+    }
+
+    /// Tokens whose leaves are all of this type.
+    fn leaves(&mut self, tokens: &[Token], text: &[u8], item: Item) {
+        for token in tokens {
+            let bytes = token.bytes(text);
+            match token.symbol {
+                Symbol::Whole if item == Item::Extent => {
+                    self.bytes.extend_from_slice(number::plain(bytes));
+                }
+                Symbol::Whole | Symbol::Real => self.number(bytes),
+                Symbol::String => self.string(bytes),
+                Symbol::Name | Symbol::Truth => self.bytes.extend_from_slice(bytes),
+                _ => self.bytes.push(bytes[0]),
+            }
+        }
+    }
+
+    /// The value that comes first, whose type may hold tuples; gives the tokens behind it.
+    fn typed<'t>(&mut self, tokens: &'t [Token], text: &[u8], ty: Type) -> &'t [Token] {
+        let list = self.list;
+        let mut rest = self.one(tokens, text, ty);
+        if ty.arrays > 0 {
+            return self.typed_items(rest, text, ty.of_items());
+        }
+        if let Item::Tuple(types) = ty.item {
+            for item in types.of(&list.types) {
+                rest = self.typed(rest, text, *item);
+                rest = self.one(rest, text, *item);
+            }
+        }
+        rest
+    }
+
+    /// The items of an array and its closing bracket; gives the tokens behind it.
+    fn typed_items<'t>(&mut self, items: &'t [Token], text: &[u8], ty: Type) -> &'t [Token] {
+        let mut rest = items;
+        while rest[0].symbol != Symbol::CloseSquare {
+            rest = self.typed(rest, text, ty);
+            if rest[0].symbol == Symbol::Comma {
+                rest = self.one(rest, text, ty);
+            }
+        }
+        self.one(rest, text, ty)
+    }
+
+    /// The token that comes first; gives those behind it.
+    fn one<'t>(&mut self, tokens: &'t [Token], text: &[u8], ty: Type) -> &'t [Token] {
+        let (first, rest) = tokens.split_at(1);
+        self.leaves(first, text, ty.item);
+        rest
+    }
+
+    /// A number that is no extent: mantissa, `e`, exponent.
+    fn number(&mut self, bytes: &[u8]) {
+        let mut spelling = [0; SPELLING_BYTES];
+        let length = spell(bytes, &mut spelling);
+        self.bytes.extend_from_slice(&spelling[..length]);
     }
 
     /// A string in single quotes, or in double ones when it holds a single one.
-    fn string(&mut self, content: &[u8]) {
+    fn string(&mut self, bytes: &[u8]) {
+        let content = &bytes[1..bytes.len() - 1];
         let quote = if content.contains(&b'\'') {
             b'"'
         } else {
@@ -84,51 +191,81 @@ impl Text {
         self.bytes.push(quote);
         self.bytes.extend_from_slice(content);
         self.bytes.push(quote);
+    }
+
+    fn name(&mut self, name: Token, text: &[u8]) {
+        self.bytes.extend_from_slice(name.bytes(text));
         self.tokens += 1;
     }
 
-    fn bracketed<T>(
-        &mut self,
-        open: &[u8],
-        items: impl IntoIterator<Item = T>,
-        close: &[u8],
-        write: impl Fn(&mut Text, T),
-    ) {
-        self.token(open);
-        self.separated(items, write);
-        self.token(close);
+    /// These bytes, which are so many tokens.
+    fn marks(&mut self, bytes: &[u8], tokens: usize) {
+        self.bytes.extend_from_slice(bytes);
+        self.tokens += tokens;
     }
+}
 
-    /// The items with commas between them.
-    fn separated<T>(&mut self, items: impl IntoIterator<Item = T>, write: impl Fn(&mut Text, T)) {
-        for (place, item) in items.into_iter().enumerate() {
-            if place > 0 {
-                self.token(b",");
-            }
-            write(self, item);
+/// A number's digits, `e`, a sign and the three digits of an exponent.
+const SPELLING_BYTES: usize = limits::NUMBER_BYTES + 5;
+
+/// Spells a number that is in range, and gives the length.
+fn spell(number: &[u8], out: &mut [u8; SPELLING_BYTES]) -> usize {
+    let (mantissa, written) = number::mantissa_and_exponent(number);
+    let mut fraction = mantissa.len();
+    let mut digits = 0;
+    for (place, &byte) in mantissa.iter().enumerate() {
+        if byte == b'.' {
+            fraction = place + 1;
+        } else if byte != b'0' || digits > 0 {
+            out[digits] = byte;
+            digits += 1;
         }
     }
-
-    /// A token as it is formatted.
-    fn written(&mut self, token: std::fmt::Arguments) {
-        self.bytes.write_fmt(token).expect("a vector takes all");
-        self.tokens += 1;
+    if digits == 0 {
+        out[..3].copy_from_slice(b"0e0");
+        return 3;
     }
-
-    fn token(&mut self, bytes: &[u8]) {
-        self.bytes.extend_from_slice(bytes);
-        self.tokens += 1;
+    let mut length = digits;
+    while out[length - 1] == b'0' {
+        length -= 1;
     }
+    let exponent = written + (digits - length) as i32 - (mantissa.len() - fraction) as i32;
+    out[length] = b'e';
+    length + 1 + spell_exponent(exponent, &mut out[length + 1..])
+}
 
-    fn blank(&mut self, byte: u8) {
-        self.bytes.push(byte);
+/// Spells an exponent, which has at most three digits, and gives the length.
+fn spell_exponent(exponent: i32, out: &mut [u8]) -> usize {
+    let mut length = 0;
+    let mut push = |byte: u8| {
+        out[length] = byte;
+        length += 1;
+    };
+    if exponent < 0 {
+        push(b'-');
+    }
+    let size = exponent.unsigned_abs();
+    if size >= 100 {
+        push(b'0' + (size / 100) as u8);
+    }
+    if size >= 10 {
+        push(b'0' + (size / 10 % 10) as u8);
+    }
+    push(b'0' + (size % 10) as u8);
+    length
+}
+
+/// The tokens of a left side; a tuple at its top loses its brackets.
+fn without_brackets(left: &[Token], bare: bool) -> &[Token] {
+    match left {
+        [open, items @ .., _] if !bare && open.symbol == Symbol::OpenRound => items,
+        _ => left,
     }
 }
 
 #[cfg(test)]
 mod tests {
-    use super::canonical_text;
-    use crate::plan::Plan;
+    use super::{canonical_text, spell, SPELLING_BYTES};
     use crate::{good_document, good_list, lexer};
 
     const LIST: &[u8] = b"fragment external(shape: extent[]) -> (output: tensor) \
@@ -138,18 +275,52 @@ mod tests {
     const CANONICAL: &[u8] = b"version 1.0\ngraph win(px)->(out)\n{\n\
         px=external(shape=[1,9]);\nout=scale(x=px,by=5e-1);\n}\n";
 
+    fn written(list: &[u8], document: &[u8]) -> Vec<u8> {
+        let list = good_list(list).unwrap();
+        let (document, graph) = good_document(&list, document).unwrap();
+        canonical_text(&list, &document, &graph).unwrap()
+    }
+
     #[test]
     fn worked_example() {
-        let list = good_list(LIST).unwrap();
         for document in [DOCUMENT, CANONICAL] {
-            let text = good_document(&list, document, |graph| {
-                canonical_text(&Plan::new(graph).unwrap(), &list)
-            });
-            let text = text.unwrap();
-            assert_eq!(text.bytes, CANONICAL);
-            assert_eq!((text.bytes.len(), text.tokens), (88, 39));
-            assert_eq!(lexer::lex(&text.bytes).unwrap().len(), text.tokens);
+            let text = written(LIST, document);
+            assert_eq!(text, CANONICAL);
+            // The tokens and the text's end.
+            assert_eq!((text.len(), lexer::lex(&text).unwrap().len()), (88, 39 + 1));
         }
+    }
+
+    #[test]
+    fn numbers() {
+        for (number, spelling) in [
+            ("0.0500e3", "5e1"),
+            ("000", "0e0"),
+            ("0.00e12", "0e0"),
+            ("120", "12e1"),
+            ("1200.3400", "120034e-2"),
+            ("100.00E+7", "1e9"),
+            ("0.0012e-0100", "12e-104"),
+            ("1e999", "1e999"),
+        ] {
+            let mut out = [0; SPELLING_BYTES];
+            let length = spell(number.as_bytes(), &mut out);
+            assert_eq!(&out[..length], spelling.as_bytes(), "{number}");
+        }
+    }
+
+    #[test]
+    fn tuples() {
+        let list = b"fragment external(shape: extent[]) -> (output: tensor) \
+            fragment f(x: (tensor, tensor[])[], by: (extent, scalar[])[][] = [[(01, [2])], []]) \
+            -> (y: tensor, z: (tensor, tensor))";
+        let document = b"version 1.0 graph g(a) -> (b) { a = external(shape = []) \
+            (b, (c, d)) = f([(a, [a, 01]), (true, [])]); e, (h, i) = f([], by = [[]]) }";
+        let text = b"version 1.0\ngraph g(a)->(b)\n{\na=external(shape=[]);\n\
+            b,(c,d)=f(x=[(a,[a,1e0]),(true,[])],by=[[(1,[2e0])],[]]);\n\
+            e,(h,i)=f(x=[],by=[[]]);\n}\n";
+        assert_eq!(written(list, document), text);
+        assert_eq!(written(list, text), text);
     }
 
     #[test]

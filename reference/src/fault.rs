@@ -18,10 +18,22 @@ impl Fault {
     }
 }
 
-/// Refuses with the first of the faults, if there are any.
-pub fn none_of(faults: Vec<Fault>) -> Result<(), Fault> {
-    match faults.into_iter().min() {
-        Some(first) => Err(first),
-        None => Ok(()),
+/// The first of the faults that were noted.
+#[derive(Default)]
+pub struct First(Option<Fault>);
+
+impl First {
+    pub fn note(&mut self, code: u32, position: u32) {
+        self.note_fault(Fault::new(code, position));
+    }
+
+    #[cold]
+    pub fn note_fault(&mut self, fault: Fault) {
+        self.0 = Some(self.0.map_or(fault, |first| first.min(fault)));
+    }
+
+    /// Refuses with the first fault, if there is any.
+    pub fn none(self) -> Result<(), Fault> {
+        self.0.map_or(Ok(()), Err)
     }
 }

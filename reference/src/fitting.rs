@@ -1,49 +1,136 @@
 //! Which values a type takes.
 
-use crate::lexer::Kind;
-use crate::limits;
-use crate::number::Parts;
-use crate::tree::{Form, Type, Value};
+use crate::number;
+use crate::token::{Span, Symbol, Symbols, Token};
+use crate::tree::{Item, Type};
 
-/// Whether a value fits a type. A left side matches the results when it fits
-/// their type: its leaves are names, and a name fits tensor alone.
-pub fn fits(value: &Value, ty: &Type) -> bool {
-    match (&value.form, ty) {
-        (Form::Name(_), _) => *ty == Type::Tensor,
-        (Form::Literal(kind, bytes), _) => literal_fits(*kind, bytes, ty),
-        (Form::Array(items), Type::Array(item_type)) => {
-            items.iter().all(|item| fits(item, item_type))
+/// Values of one text, held against the types of a list.
+#[derive(Clone, Copy)]
+pub struct Fitting<'a> {
+    pub types: &'a [Type],
+    pub text: &'a [u8],
+}
+
+impl<'a> Fitting<'a> {
+    /// Whether a value fits a type. A left side matches the results when it fits
+    /// their type: its leaves are names, and a name fits tensor alone.
+    pub fn fits(self, value: &[Token], ty: Type) -> bool {
+        match value {
+            [leaf] => ty.arrays == 0 && self.leaf_fits(*leaf, ty.item),
+            // Leaves and commas take turns up to the first bracket, which fits no item.
+            [open, items @ .., _] if ty.arrays == 1 && !is_tuple(ty.item) => {
+                let mut items = items.iter().step_by(2);
+                open.symbol == Symbol::OpenSquare
+                    && items.all(|leaf| self.leaf_fits(*leaf, ty.item))
+            }
+            _ => self.rest_of_value(value, ty).is_some(),
         }
-        (Form::Tuple(items), Type::Tuple(types)) => {
-            items.len() == types.len() && items.iter().zip(types).all(|(item, ty)| fits(item, ty))
+    }
+
+    /// Whether a left side that is a tuple without brackets matches a type.
+    pub fn bare_fits(self, left: &[Token], ty: Type) -> bool {
+        match ty.item {
+            Item::Tuple(types) if ty.arrays == 0 => {
+                let rest = self.rest_of_items(left, types);
+                rest.is_some_and(<[Token]>::is_empty)
+            }
+            _ => false,
         }
-        (Form::Array(_) | Form::Tuple(_), _) => false,
+    }
+
+    /// The tokens behind the value that comes first, if it fits.
+    fn rest_of_value(self, tokens: &[Token], ty: Type) -> Option<&[Token]> {
+        let (first, rest) = tokens.split_first()?;
+        if ty.arrays > 0 {
+            return match first.symbol {
+                Symbol::OpenSquare => self.rest_of_array(rest, ty.of_items()),
+                _ => None,
+            };
+        }
+        match (ty.item, first.symbol) {
+            (Item::Tuple(types), Symbol::OpenRound) => {
+                behind(self.rest_of_items(rest, types)?, Symbol::CloseRound)
+            }
+            _ => self.leaf_fits(*first, ty.item).then_some(rest),
+        }
+    }
+
+    /// The tokens behind an array whose opening bracket is taken, if its items fit.
+    fn rest_of_array(self, mut tokens: &[Token], ty: Type) -> Option<&[Token]> {
+        if let Some(rest) = behind(tokens, Symbol::CloseSquare) {
+            return Some(rest);
+        }
+        loop {
+            let rest = self.rest_of_value(tokens, ty)?;
+            match behind(rest, Symbol::Comma) {
+                Some(rest) => tokens = rest,
+                None => return behind(rest, Symbol::CloseSquare),
+            }
+        }
+    }
+
+    /// The tokens behind items with commas between them, if each fits its type.
+    fn rest_of_items(self, mut tokens: &[Token], types: Span) -> Option<&[Token]> {
+        let (last, others) = types.of(self.types).split_last()?;
+        for ty in others {
+            tokens = behind(self.rest_of_value(tokens, *ty)?, Symbol::Comma)?;
+        }
+        self.rest_of_value(tokens, *last)
+    }
+
+    #[inline(always)]
+    fn leaf_fits(self, leaf: Token, item: Item) -> bool {
+        leaves(item).has(leaf.symbol)
+            && (item != Item::Extent || number::is_extent(leaf.bytes(self.text)))
     }
 }
 
-fn literal_fits(kind: Kind, bytes: &[u8], ty: &Type) -> bool {
-    match ty {
-        Type::Tensor => matches!(kind, Kind::Whole | Kind::Real | Kind::Logical),
-        Type::Extent => kind == Kind::Whole && extent(bytes).is_some(),
-        Type::Scalar => matches!(kind, Kind::Whole | Kind::Real),
-        Type::Logical => kind == Kind::Logical,
-        Type::String => kind == Kind::String,
-        Type::Array(_) | Type::Tuple(_) => false,
+impl Type {
+    /// The type of an array's items.
+    pub fn of_items(self) -> Type {
+        Type {
+            arrays: self.arrays - 1,
+            ..self
+        }
+    }
+
+    /// Whether it is tensor, an array of such, or a tuple of only such.
+    pub fn is_all_tensor(self, types: &[Type]) -> bool {
+        match self.item {
+            Item::Tensor => true,
+            Item::Extent | Item::Scalar | Item::Logical | Item::String => false,
+            Item::Tuple(items) => items.of(types).iter().all(|ty| ty.is_all_tensor(types)),
+        }
     }
 }
 
-/// The value of a whole number, if it is small enough for an extent.
-pub fn extent(bytes: &[u8]) -> Option<u64> {
-    let (parts, _) = Parts::at(bytes, 0);
-    parts.reduced()?.at_most(limits::EXTENT)
+/// The leaves that fit, of an extent if they are small enough.
+fn leaves(item: Item) -> Symbols {
+    const TENSOR: Symbols =
+        Symbols::of(&[Symbol::Name, Symbol::Whole, Symbol::Real, Symbol::Truth]);
+    const EXTENT: Symbols = Symbols::of(&[Symbol::Whole]);
+    const SCALAR: Symbols = Symbols::of(&[Symbol::Whole, Symbol::Real]);
+    const LOGICAL: Symbols = Symbols::of(&[Symbol::Truth]);
+    const STRING: Symbols = Symbols::of(&[Symbol::String]);
+    const TUPLE: Symbols = Symbols::of(&[]);
+    match item {
+        Item::Tensor => TENSOR,
+        Item::Extent => EXTENT,
+        Item::Scalar => SCALAR,
+        Item::Logical => LOGICAL,
+        Item::String => STRING,
+        Item::Tuple(_) => TUPLE,
+    }
 }
 
-/// Whether a type is tensor, an array of such, or a tuple of only such.
-pub fn is_all_tensor(ty: &Type) -> bool {
-    match ty {
-        Type::Tensor => true,
-        Type::Extent | Type::Scalar | Type::Logical | Type::String => false,
-        Type::Array(item) => is_all_tensor(item),
-        Type::Tuple(items) => items.iter().all(is_all_tensor),
+fn is_tuple(item: Item) -> bool {
+    matches!(item, Item::Tuple(_))
+}
+
+/// The tokens behind this one, if it comes first.
+fn behind(tokens: &[Token], symbol: Symbol) -> Option<&[Token]> {
+    match tokens {
+        [first, rest @ ..] if first.symbol == symbol => Some(rest),
+        _ => None,
     }
 }

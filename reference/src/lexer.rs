@@ -3,28 +3,8 @@
 use crate::codes;
 use crate::fault::Fault;
 use crate::limits;
-use crate::number::Parts;
-
-/// What a token is; the numbers are those of the token table.
-#[derive(Clone, Copy, Debug, PartialEq, Eq)]
-pub enum Kind {
-    Name = 1,
-    Whole = 2,
-    Real = 3,
-    String = 4,
-    Logical = 5,
-    Keyword = 6,
-    Operator = 7,
-    Syntactic = 8,
-}
-
-/// A token: the bytes of the text from `start` up to but not including `end`.
-#[derive(Clone, Copy, Debug, PartialEq, Eq)]
-pub struct Token {
-    pub kind: Kind,
-    pub start: u32,
-    pub end: u32,
-}
+use crate::number::{self, Parts};
+use crate::token::{Symbol, Token};
 
 /// What a byte can begin.
 #[derive(Clone, Copy, PartialEq, Eq)]
@@ -35,10 +15,16 @@ enum Class {
     Letter,
     Digit,
     Quote,
-    Mark,
+    /// A token of this byte alone, whatever comes next; `SINGLES` says which.
+    Single,
+    /// A token of one or of two bytes.
+    Double,
 }
 
 static CLASSES: [Class; 256] = classes();
+static SINGLES: [Symbol; 256] = singles();
+/// Whether a byte goes on with a word: a letter or a digit.
+static WORD: [bool; 256] = word_bytes();
 
 const fn classes() -> [Class; 256] {
     let mut table = [Class::Nothing; 256];
@@ -50,10 +36,9 @@ const fn classes() -> [Class; 256] {
             b'A'..=b'Z' | b'a'..=b'z' | b'_' => Class::Letter,
             b'0'..=b'9' => Class::Digit,
             b'\'' | b'"' => Class::Quote,
-            b'+' | b'-' | b'*' | b'/' | b'^' | b'<' | b'>' | b'=' | b'!' | b'&' | b'|' => {
-                Class::Mark
-            }
-            b'(' | b')' | b'[' | b']' | b'{' | b'}' | b':' | b',' | b';' => Class::Mark,
+            b'-' | b'<' | b'>' | b'=' | b'!' | b'&' | b'|' => Class::Double,
+            b'+' | b'*' | b'/' | b'^' | b':' | b',' | b';' => Class::Single,
+            b'(' | b')' | b'[' | b']' | b'{' | b'}' => Class::Single,
             _ => Class::Nothing,
         };
         byte += 1;
@@ -61,8 +46,32 @@ const fn classes() -> [Class; 256] {
     table
 }
 
+const fn singles() -> [Symbol; 256] {
+    let mut table = [Symbol::Operator; 256];
+    table[b'(' as usize] = Symbol::OpenRound;
+    table[b')' as usize] = Symbol::CloseRound;
+    table[b'[' as usize] = Symbol::OpenSquare;
+    table[b']' as usize] = Symbol::CloseSquare;
+    table[b'{' as usize] = Symbol::OpenCurly;
+    table[b'}' as usize] = Symbol::CloseCurly;
+    table[b':' as usize] = Symbol::Colon;
+    table[b',' as usize] = Symbol::Comma;
+    table[b';' as usize] = Symbol::Semicolon;
+    table
+}
+
+const fn word_bytes() -> [bool; 256] {
+    let mut table = [false; 256];
+    let mut byte = 0;
+    while byte < 256 {
+        table[byte] = matches!(CLASSES[byte], Class::Letter | Class::Digit);
+        byte += 1;
+    }
+    table
+}
+
 fn class(byte: u8) -> Class {
-    CLASSES[byte as usize]
+    CLASSES[usize::from(byte)]
 }
 
 /// Refuses a text that is too long.
@@ -73,39 +82,49 @@ pub fn length(text: &[u8]) -> Result<(), Fault> {
     Ok(())
 }
 
-/// The tokens of a text in order, or its first fault.
+/// The tokens of a text in order and its end behind them, or its first fault.
+/// The text is not too long.
 pub fn lex(text: &[u8]) -> Result<Vec<Token>, Fault> {
-    let mut tokens = Vec::with_capacity(text.len().min(limits::TOKENS));
+    let mut tokens = Vec::with_capacity(text.len().min(limits::TOKENS) + 1);
     let mut at = 0;
-    while let Some(&byte) = text.get(at) {
-        let (kind, end) = match class(byte) {
+    loop {
+        let Some(&byte) = text.get(at) else {
+            tokens.push(token(Symbol::End, at, at));
+            return Ok(tokens);
+        };
+        let (symbol, end) = match class(byte) {
             Class::Blank => {
                 at += 1;
                 continue;
             }
+            Class::Single => (SINGLES[usize::from(byte)], at + 1),
+            Class::Letter => word(text, at)?,
+            Class::Digit => number(text, at)?,
+            Class::Double => double(text, at)?,
+            Class::Quote => string(text, at)?,
             Class::Comment => {
                 at = span(text, at, |b| b != b'\n');
                 continue;
             }
-            Class::Letter => word(text, at)?,
-            Class::Digit => number(text, at)?,
-            Class::Quote => string(text, at)?,
-            Class::Mark => mark(text, at)?,
             Class::Nothing => return fault(codes::NO_TOKEN, at),
         };
         if tokens.len() == limits::TOKENS {
             return fault(codes::TOO_MANY_TOKENS, at);
         }
-        tokens.push(Token {
-            kind,
-            start: at as u32,
-            end: end as u32,
-        });
+        tokens.push(token(symbol, at, end));
         at = end;
     }
-    Ok(tokens)
 }
 
+fn token(symbol: Symbol, start: usize, end: usize) -> Token {
+    Token {
+        start: start as u16,
+        end: end as u16,
+        symbol,
+    }
+}
+
+#[cold]
 fn fault<T>(code: u32, position: usize) -> Result<T, Fault> {
     Err(Fault::new(code, position as u32))
 }
@@ -117,29 +136,39 @@ fn span(text: &[u8], from: usize, belongs: impl Fn(u8) -> bool) -> usize {
 }
 
 /// A name, a keyword, `true` or `false`.
-fn word(text: &[u8], start: usize) -> Result<(Kind, usize), Fault> {
-    let end = span(text, start, |b| {
-        matches!(class(b), Class::Letter | Class::Digit)
-    });
+fn word(text: &[u8], start: usize) -> Result<(Symbol, usize), Fault> {
+    let end = span(text, start + 1, |b| WORD[usize::from(b)]);
     if end - start > limits::NAME_BYTES {
         return fault(codes::TOKEN_TOO_LONG, start);
     }
-    Ok((word_kind(&text[start..end]), end))
+    Ok((word_symbol(&text[start..end]), end))
 }
 
-fn word_kind(word: &[u8]) -> Kind {
-    match word {
-        b"true" | b"false" => Kind::Logical,
-        b"graph" | b"fragment" | b"version" => Kind::Keyword,
-        b"tensor" | b"extent" | b"scalar" | b"logical" | b"string" => Kind::Keyword,
-        b"shape_of" | b"length_of" | b"range_of" => Kind::Keyword,
-        b"for" | b"in" | b"if" | b"else" => Kind::Keyword,
-        _ => Kind::Name,
+/// The first byte leaves three words at most to compare with.
+fn word_symbol(word: &[u8]) -> Symbol {
+    match (word[0], word) {
+        (b'e', b"extent") => Symbol::Extent,
+        (b'e', b"else") => Symbol::Reserved,
+        (b'f', b"fragment") => Symbol::Fragment,
+        (b'f', b"false") => Symbol::Truth,
+        (b'f', b"for") => Symbol::Reserved,
+        (b'g', b"graph") => Symbol::Graph,
+        (b'i', b"in" | b"if") => Symbol::Reserved,
+        (b'l', b"logical") => Symbol::Logical,
+        (b'l', b"length_of") => Symbol::Reserved,
+        (b'r', b"range_of") => Symbol::Reserved,
+        (b's', b"scalar") => Symbol::Scalar,
+        (b's', b"string") => Symbol::StringType,
+        (b's', b"shape_of") => Symbol::Reserved,
+        (b't', b"tensor") => Symbol::Tensor,
+        (b't', b"true") => Symbol::Truth,
+        (b'v', b"version") => Symbol::Version,
+        _ => Symbol::Name,
     }
 }
 
 /// A string: anything printable between two equal quotes, without escapes.
-fn string(text: &[u8], start: usize) -> Result<(Kind, usize), Fault> {
+fn string(text: &[u8], start: usize) -> Result<(Symbol, usize), Fault> {
     let quote = text[start];
     let close = span(text, start + 1, |b| b != quote && (32..=126).contains(&b));
     if text.get(close) != Some(&quote) {
@@ -148,30 +177,34 @@ fn string(text: &[u8], start: usize) -> Result<(Kind, usize), Fault> {
     if close - (start + 1) > limits::STRING_BYTES {
         return fault(codes::TOKEN_TOO_LONG, start);
     }
-    Ok((Kind::String, close + 1))
+    Ok((Symbol::String, close + 1))
 }
 
-/// An operator or a syntactic character, the longer one where two fit.
-fn mark(text: &[u8], start: usize) -> Result<(Kind, usize), Fault> {
+/// A token that begins with a mark which can begin one of two bytes; the longer
+/// one where both are there.
+fn double(text: &[u8], start: usize) -> Result<(Symbol, usize), Fault> {
     let next = text.get(start + 1).copied();
-    let (kind, length) = match (text[start], next) {
-        (b'-', Some(b'>')) => (Kind::Syntactic, 2),
-        (b'<' | b'>' | b'=' | b'!', Some(b'=')) => (Kind::Operator, 2),
-        (b'&', Some(b'&')) | (b'|', Some(b'|')) => (Kind::Operator, 2),
+    let (symbol, length) = match (text[start], next) {
+        (b'-', Some(b'>')) => (Symbol::Arrow, 2),
+        (b'<' | b'>' | b'=' | b'!', Some(b'=')) => (Symbol::Operator, 2),
+        (b'&', Some(b'&')) | (b'|', Some(b'|')) => (Symbol::Operator, 2),
         (b'&' | b'|', _) => return fault(codes::NO_TOKEN, start),
-        (b'+' | b'-' | b'*' | b'/' | b'^' | b'<' | b'>' | b'!', _) => (Kind::Operator, 1),
-        _ => (Kind::Syntactic, 1),
+        (b'=', _) => (Symbol::Equals, 1),
+        _ => (Symbol::Operator, 1),
     };
-    Ok((kind, start + length))
+    Ok((symbol, start + length))
 }
 
 /// A number: digits, then a point and digits or not, then an exponent or not.
-fn number(text: &[u8], start: usize) -> Result<(Kind, usize), Fault> {
-    let (parts, end) = Parts::at(text, start);
-    if text
-        .get(end)
-        .is_some_and(|&b| b == b'.' || class(b) == Class::Letter)
-    {
+fn number(text: &[u8], start: usize) -> Result<(Symbol, usize), Fault> {
+    // Few digits without an exponent are in range whatever they are.
+    let whole_end = number::digits_end(text, start + 1);
+    let end = number::fraction_end(text, whole_end);
+    if end - start <= limits::MANTISSA_DIGITS && !goes_on(text, end) {
+        return Ok((number_symbol(end == whole_end), end));
+    }
+    let (parts, end) = Parts::from([start, whole_end, end], text);
+    if goes_on(text, end) {
         return fault(codes::NUMBER_MISSPELT, start);
     }
     if end - start > limits::NUMBER_BYTES {
@@ -180,10 +213,19 @@ fn number(text: &[u8], start: usize) -> Result<(Kind, usize), Fault> {
     if !parts.is_in_range() {
         return fault(codes::OUT_OF_RANGE, start);
     }
-    let kind = if parts.is_whole() {
-        Kind::Whole
+    Ok((number_symbol(parts.is_whole()), end))
+}
+
+fn number_symbol(is_whole: bool) -> Symbol {
+    if is_whole {
+        Symbol::Whole
     } else {
-        Kind::Real
-    };
-    Ok((kind, end))
+        Symbol::Real
+    }
+}
+
+/// Whether a byte follows that no number may have behind it.
+fn goes_on(text: &[u8], end: usize) -> bool {
+    text.get(end)
+        .is_some_and(|&b| b == b'.' || class(b) == Class::Letter)
 }

@@ -9,20 +9,21 @@ mod fitting;
 mod graph;
 mod lexer;
 mod limits;
+mod names;
 mod number;
 mod parser;
 mod plan;
-mod rules;
 mod rules_document;
 mod rules_list;
+mod token;
 mod tree;
 
 use canonical::canonical_text;
 use fault::Fault;
 use graph::Graph;
-use lexer::Token;
 use plan::Plan;
-use tree::Operation;
+use token::Token;
+use tree::{Document, List};
 
 /// The text numbers of answers: none, the operation list or the sole text, and the document.
 const NO_TEXT: u32 = 0;
@@ -81,10 +82,14 @@ pub fn tokens(text: &[u8], table: &mut [u32]) -> Answer {
     match lexer::length(text).and_then(|()| lexer::lex(text)) {
         Err(fault) => Answer::refused(LIST, fault),
         Ok(tokens) => {
-            for (record, token) in table.chunks_exact_mut(3).zip(&tokens) {
-                record.copy_from_slice(&[token.kind as u32, token.start, token.end]);
+            // The last one is the text's end.
+            let count = tokens.len() - 1;
+            for (record, token) in table.chunks_exact_mut(3).zip(&tokens[..count]) {
+                record[0] = token.symbol.kind();
+                record[1] = u32::from(token.start);
+                record[2] = u32::from(token.end);
             }
-            Answer::accepted(tokens.len())
+            Answer::accepted(count)
         }
     }
 }
@@ -101,7 +106,7 @@ pub fn declarations(list: &[u8], work: &mut [u32]) -> Answer {
     work.fill(0);
     match good_list(list) {
         Err(fault) => Answer::refused(LIST, fault),
-        Ok(operations) => Answer::accepted(operations.len()),
+        Ok(list) => Answer::accepted(list.operations.len()),
     }
 }
 
@@ -121,11 +126,10 @@ pub fn check(
     if calls.len() < limits::CALL_WORDS || wires.len() < limits::WIRE_WORDS {
         return Answer::room_too_short();
     }
-    judged(list, document, [list_work, document_work], |_, graph| {
-        let call_table = graph.call_table();
-        let wire_table = graph.wire_table();
-        calls[..call_table.len()].copy_from_slice(&call_table);
-        wires[..wire_table.len()].copy_from_slice(&wire_table);
+    judged(list, document, [list_work, document_work], |_, _, graph| {
+        let (call_table, wire_table) = (graph.calls.as_flattened(), graph.wires.as_flattened());
+        calls[..call_table.len()].copy_from_slice(call_table);
+        wires[..wire_table.len()].copy_from_slice(wire_table);
         Answer::accepted(graph.calls.len())
     })
 }
@@ -141,23 +145,25 @@ pub fn canon(
     document_work: &mut [u32],
     out: &mut [u8],
 ) -> Answer {
-    judged(list, document, [list_work, document_work], |list, graph| {
-        let plan = Plan::new(graph).expect("a document without faults has a plan");
-        let text = canonical_text(&plan, list);
-        let length = text.bytes.len();
-        if !text.keeps_limits() {
-            return Answer::refused(NO_TEXT, Fault::new(codes::CANONICAL_TOO_LONG, 0));
-        }
-        if out.len() < length {
-            let fault = Fault {
-                detail: length as u32,
-                ..Fault::new(codes::OUTPUT_TOO_SHORT, 0)
+    judged(
+        list,
+        document,
+        [list_work, document_work],
+        |list, document, graph| {
+            let Some(text) = canonical_text(list, document, graph) else {
+                return Answer::refused(NO_TEXT, Fault::new(codes::CANONICAL_TOO_LONG, 0));
             };
-            return Answer::refused(NO_TEXT, fault);
-        }
-        out[..length].copy_from_slice(&text.bytes);
-        Answer::accepted(length)
-    })
+            if out.len() < text.len() {
+                let fault = Fault {
+                    detail: text.len() as u32,
+                    ..Fault::new(codes::OUTPUT_TOO_SHORT, 0)
+                };
+                return Answer::refused(NO_TEXT, fault);
+            }
+            out[..text.len()].copy_from_slice(&text);
+            Answer::accepted(text.len())
+        },
+    )
 }
 
 /// Whether two documents are accepted under an operation list and have the same plan.
@@ -167,9 +173,9 @@ pub fn same_plan(list: &[u8], one: &[u8], other: &[u8]) -> bool {
             lexer::length(text)?;
         }
         let list = good_list(list)?;
-        good_document(&list, one, |one| {
-            good_document(&list, other, |other| Plan::new(one) == Plan::new(other))
-        })?
+        let (one, one_graph) = good_document(&list, one)?;
+        let (other, other_graph) = good_document(&list, other)?;
+        Ok::<_, Fault>(Plan::new(&list, &one, &one_graph) == Plan::new(&list, &other, &other_graph))
     };
     compare() == Ok(true)
 }
@@ -186,12 +192,13 @@ pub fn document_syntax(text: &[u8]) -> Answer {
     syntax(text, |tokens| parser::document(text, tokens).map(drop))
 }
 
-fn syntax(text: &[u8], parse: impl Fn(&[Token]) -> Result<(), Fault>) -> Answer {
+fn syntax(text: &[u8], parse: impl Fn(Vec<Token>) -> Result<(), Fault>) -> Answer {
     let read = || {
         lexer::length(text)?;
         let tokens = lexer::lex(text)?;
-        parse(&tokens)?;
-        Ok(tokens.len())
+        let count = tokens.len() - 1;
+        parse(tokens)?;
+        Ok(count)
     };
     match read() {
         Err(fault) => Answer::refused(LIST, fault),
@@ -205,7 +212,7 @@ fn judged(
     list: &[u8],
     document: &[u8],
     work: [&mut [u32]; 2],
-    make: impl FnOnce(&[Operation], &Graph) -> Answer,
+    make: impl FnOnce(&List, &Document, &Graph) -> Answer,
 ) -> Answer {
     if work.iter().any(|area| area.len() < limits::WORK_WORDS) {
         return Answer::room_too_short();
@@ -216,30 +223,26 @@ fn judged(
         }
     }
     work.into_iter().for_each(|area| area.fill(0));
-    match good_list(list) {
-        Err(fault) => Answer::refused(LIST, fault),
-        Ok(list) => good_document(&list, document, |graph| make(&list, graph))
-            .unwrap_or_else(|fault| Answer::refused(DOCUMENT, fault)),
+    let list = match good_list(list) {
+        Err(fault) => return Answer::refused(LIST, fault),
+        Ok(list) => list,
+    };
+    match good_document(&list, document) {
+        Err(fault) => Answer::refused(DOCUMENT, fault),
+        Ok((document, graph)) => make(&list, &document, &graph),
     }
 }
 
-/// The operations of a list that has no fault.
-fn good_list(text: &[u8]) -> Result<Vec<Operation<'_>>, Fault> {
-    let tokens = lexer::lex(text)?;
-    let operations = parser::operation_list(text, &tokens)?;
-    fault::none_of(rules_list::faults(&operations))?;
-    Ok(operations)
+/// An operation list that has no fault.
+fn good_list(text: &[u8]) -> Result<List<'_>, Fault> {
+    let mut list = parser::operation_list(text, lexer::lex(text)?)?;
+    rules_list::keep(&mut list)?;
+    Ok(list)
 }
 
-/// What `make` makes of a document that has no fault under the list.
-fn good_document<T>(
-    list: &[Operation],
-    text: &[u8],
-    make: impl FnOnce(&Graph) -> T,
-) -> Result<T, Fault> {
-    let tokens = lexer::lex(text)?;
-    let document = parser::document(text, &tokens)?;
-    let graph = Graph::new(list, &document);
-    fault::none_of(rules_document::faults(&graph))?;
-    Ok(make(&graph))
+/// A document that has no fault under the list, and its graph.
+fn good_document<'a>(list: &List, text: &'a [u8]) -> Result<(Document<'a>, Graph), Fault> {
+    let document = parser::document(text, lexer::lex(text)?)?;
+    let graph = rules_document::keep(list, &document)?;
+    Ok((document, graph))
 }

@@ -16,8 +16,8 @@ pub const MANTISSA_DIGITS: usize = 18;
 pub const WRITTEN_EXPONENT: i32 = 9_999;
 /// The greatest size of a reduced exponent.
 pub const REDUCED_EXPONENT: i32 = 999;
-/// The greatest extent.
-pub const EXTENT: u64 = 2_147_483_647;
+/// The digits of the greatest extent.
+pub const EXTENT: &[u8] = b"2147483647";
 /// Brackets of arrays and tuples that are open at once.
 pub const BRACKETS: usize = 8;
 /// Operations of a list.

@@ -14,29 +14,29 @@ pub struct Parts<'a> {
 
 /// A value as a mantissa that is not divisible by ten, times ten to the
 /// exponent; zero has the mantissa 0 and the exponent 0.
-#[derive(Clone, Copy, Debug, PartialEq, Eq)]
-pub struct Reduced {
-    pub mantissa: u64,
+#[derive(Clone, Copy)]
+pub struct Reduced<'a> {
+    /// The mantissa's digits are these in a row, without zeros at the ends.
+    pub digits: [&'a [u8]; 2],
     pub exponent: i32,
 }
 
 impl<'a> Parts<'a> {
     /// The parts of the longest number at `start`, where a digit stands, and its end.
     pub fn at(text: &'a [u8], start: usize) -> (Parts<'a>, usize) {
-        let mut end = digits_end(text, start);
+        let whole_end = digits_end(text, start + 1);
+        let end = fraction_end(text, whole_end);
+        Parts::from([start, whole_end, end], text)
+    }
+
+    /// The same, when the ends of the whole digits and of the fraction are known.
+    pub fn from([start, whole_end, mut end]: [usize; 3], text: &'a [u8]) -> (Parts<'a>, usize) {
         let mut parts = Parts {
-            whole: &text[start..end],
-            fraction: &[],
+            whole: &text[start..whole_end],
+            fraction: text[whole_end..end].get(1..).unwrap_or(&[]),
             exponent: &[],
             exponent_negative: false,
         };
-        if text.get(end) == Some(&b'.') {
-            let fraction_end = digits_end(text, end + 1);
-            parts.fraction = &text[end + 1..fraction_end];
-            if !parts.fraction.is_empty() {
-                end = fraction_end;
-            }
-        }
         if let Some(b'e' | b'E') = text.get(end) {
             let sign = text.get(end + 1).filter(|&&b| b == b'+' || b == b'-');
             let from = if sign.is_some() { end + 2 } else { end + 1 };
@@ -55,32 +55,33 @@ impl<'a> Parts<'a> {
         self.fraction.is_empty() && self.exponent.is_empty()
     }
 
+    /// So few digits are in range whatever they are.
     pub fn is_in_range(&self) -> bool {
-        self.significant().is_some()
+        let few = self.whole.len() + self.fraction.len() <= limits::MANTISSA_DIGITS
+            && self.exponent.len() <= 2;
+        few || self.reduced().is_some()
     }
 
     /// The reduced value, unless the number is out of range.
-    pub fn reduced(&self) -> Option<Reduced> {
-        let (digits, exponent) = self.significant()?;
-        let mantissa = digits.fold(0, |value, digit| 10 * value + u64::from(digit - b'0'));
-        Some(Reduced { mantissa, exponent })
-    }
-
-    /// The digits of the reduced mantissa and the exponent that goes with them,
-    /// unless the number is out of range. Zero has no digits.
-    fn significant(&self) -> Option<(impl Iterator<Item = &'a u8>, i32)> {
+    pub fn reduced(&self) -> Option<Reduced<'a>> {
         let written = self.written_exponent()?;
-        let digits = self.whole.iter().chain(self.fraction);
-        let Some(leading) = digits.clone().position(|&d| d != b'0') else {
-            return Some((digits.skip(0).take(0), 0));
-        };
-        let trailing = digits.clone().rev().take_while(|&&d| d == b'0').count();
-        let count = self.whole.len() + self.fraction.len() - leading - trailing;
+        let digits = [self.whole, self.fraction];
+        let leading = leading_zeros(digits);
+        let all = self.whole.len() + self.fraction.len();
+        if leading == all {
+            return Some(Reduced::ZERO);
+        }
+        let trailing = trailing_zeros(digits);
         let exponent = written - self.fraction.len() as i32 + trailing as i32;
-        if count > limits::MANTISSA_DIGITS || exponent.abs() > limits::REDUCED_EXPONENT {
+        if all - leading - trailing > limits::MANTISSA_DIGITS
+            || exponent.abs() > limits::REDUCED_EXPONENT
+        {
             return None;
         }
-        Some((digits.skip(leading).take(count), exponent))
+        Some(Reduced {
+            digits: without_first(without_last(digits, trailing), leading),
+            exponent,
+        })
     }
 
     /// The exponent as written, unless it is too great.
@@ -96,18 +97,158 @@ impl<'a> Parts<'a> {
     }
 }
 
-impl Reduced {
-    /// A whole number's value, if it is at most `bound`.
-    pub fn at_most(self, bound: u64) -> Option<u64> {
-        let power = 10u64.checked_pow(self.exponent as u32)?;
-        let value = power.checked_mul(self.mantissa)?;
-        (value <= bound).then_some(value)
+impl Reduced<'_> {
+    const ZERO: Reduced<'static> = Reduced {
+        digits: [b"0", b""],
+        exponent: 0,
+    };
+
+    /// The mantissa, which has at most 18 digits.
+    pub fn mantissa(self) -> u64 {
+        let digits = self.digits.into_iter().flatten();
+        digits.fold(0, |value, digit| 10 * value + u64::from(digit - b'0'))
+    }
+}
+
+/// A number's bytes before its exponent, and the exponent as written, or 0; the
+/// number is in range.
+pub fn mantissa_and_exponent(number: &[u8]) -> (&[u8], i32) {
+    let Some(place) = number.iter().rposition(|b| matches!(b, b'e' | b'E')) else {
+        return (number, 0);
+    };
+    let (mantissa, exponent) = (&number[..place], &number[place + 1..]);
+    let digits = exponent.iter().filter(|b| b.is_ascii_digit());
+    let size = digits.fold(0, |size, digit| 10 * size + i32::from(digit - b'0'));
+    match exponent[0] {
+        b'-' => (mantissa, -size),
+        _ => (mantissa, size),
+    }
+}
+
+/// The digits of a whole number without leading zeros; of zero, one digit.
+pub fn plain(whole: &[u8]) -> &[u8] {
+    &whole[zeros(whole).min(whole.len() - 1)..]
+}
+
+/// Whether a whole number is small enough for an extent.
+pub fn is_extent(whole: &[u8]) -> bool {
+    let greatest = limits::EXTENT;
+    whole.len() < greatest.len() || {
+        let digits = plain(whole);
+        digits.len() < greatest.len() || digits.len() == greatest.len() && digits <= greatest
     }
 }
 
 /// The end of the digits from `from` on.
-fn digits_end(text: &[u8], from: usize) -> usize {
-    let rest = &text[from..];
-    let count = rest.iter().position(|b| !b.is_ascii_digit());
-    from + count.unwrap_or(rest.len())
+pub fn digits_end(text: &[u8], from: usize) -> usize {
+    let mut end = from;
+    while text.get(end).is_some_and(u8::is_ascii_digit) {
+        end += 1;
+    }
+    end
+}
+
+/// The end of a point and digits at `from`, or `from` if they are not there.
+pub fn fraction_end(text: &[u8], from: usize) -> usize {
+    if text.get(from) == Some(&b'.') {
+        let end = digits_end(text, from + 1);
+        if end > from + 1 {
+            return end;
+        }
+    }
+    from
+}
+
+/// The zeros that digits begin with.
+fn zeros(digits: &[u8]) -> usize {
+    let first = digits.iter().position(|&digit| digit != b'0');
+    first.unwrap_or(digits.len())
+}
+
+/// The zeros that digits end with.
+fn last_zeros(digits: &[u8]) -> usize {
+    let last = digits.iter().rposition(|&digit| digit != b'0');
+    last.map_or(digits.len(), |last| digits.len() - 1 - last)
+}
+
+fn leading_zeros([whole, fraction]: [&[u8]; 2]) -> usize {
+    match zeros(whole) {
+        all if all == whole.len() => all + zeros(fraction),
+        some => some,
+    }
+}
+
+fn trailing_zeros([whole, fraction]: [&[u8]; 2]) -> usize {
+    match last_zeros(fraction) {
+        all if all == fraction.len() => all + last_zeros(whole),
+        some => some,
+    }
+}
+
+fn without_first([whole, fraction]: [&[u8]; 2], count: usize) -> [&[u8]; 2] {
+    match count.checked_sub(whole.len()) {
+        Some(rest) => [&fraction[rest..], &[]],
+        None => [&whole[count..], fraction],
+    }
+}
+
+fn without_last([whole, fraction]: [&[u8]; 2], count: usize) -> [&[u8]; 2] {
+    match count.checked_sub(fraction.len()) {
+        Some(rest) => [&whole[..whole.len() - rest], &[]],
+        None => [whole, &fraction[..fraction.len() - count]],
+    }
+}
+
+#[cfg(test)]
+mod tests {
+    use super::{is_extent, plain, Parts};
+
+    fn reduced(number: &str) -> Option<(u64, i32)> {
+        let (parts, end) = Parts::at(number.as_bytes(), 0);
+        assert_eq!(end, number.len());
+        assert_eq!(parts.is_in_range(), parts.reduced().is_some());
+        let reduced = parts.reduced()?;
+        let digits = reduced.digits.concat();
+        assert_eq!(digits, reduced.mantissa().to_string().into_bytes());
+        Some((reduced.mantissa(), reduced.exponent))
+    }
+
+    #[test]
+    fn reduced_values() {
+        for (number, value) in [
+            ("0.0500e3", Some((5, 1))),
+            ("000", Some((0, 0))),
+            ("00.000e-9999", Some((0, 0))),
+            ("0e10000", None),
+            ("1200.3400", Some((120_034, -2))),
+            ("1200.000", Some((12, 2))),
+            ("0.00120", Some((12, -4))),
+            ("100", Some((1, 2))),
+            ("1e999", Some((1, 999))),
+            ("1e1000", None),
+            ("10e999", None),
+            ("0.1e1000", Some((1, 999))),
+            ("0.1e-999", None),
+            ("123456789012345678", Some((123_456_789_012_345_678, 0))),
+            ("1234567890123456789", None),
+            (
+                "0001234567890.12345678000",
+                Some((123_456_789_012_345_678, -8)),
+            ),
+        ] {
+            assert_eq!(reduced(number), value, "{number}");
+        }
+    }
+
+    #[test]
+    fn extents() {
+        assert!(is_extent(b"2147483647") && is_extent(b"0002147483647"));
+        assert!(is_extent(b"0") && is_extent(b"00000000000000") && is_extent(b"999999999"));
+        assert!(!is_extent(b"2147483648") && !is_extent(b"02147483648"));
+        assert!(!is_extent(b"9999999999") && !is_extent(b"10000000000"));
+        assert_eq!(
+            [plain(b"000"), plain(b"01"), plain(b"10")],
+            [&b"0"[..], b"1", b"10"]
+        );
+    }
 }

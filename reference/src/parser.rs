@@ -6,356 +6,410 @@
 
 use crate::codes;
 use crate::fault::Fault;
-use crate::lexer::{Kind, Token};
 use crate::limits;
-use crate::tree::{Argument, Call, Document, Form, Name, Operation, Parameter, Type, Value};
+use crate::names::Names;
+use crate::token::{Span, Symbol, Symbols, Token};
+use crate::tree::{Argument, Call, Document, Item, List, Operation, Parameter, Type};
+
+/// What values may hold where they stand: defaults, left sides and arguments.
+const LITERALS: Symbols =
+    Symbols::of(&[Symbol::Whole, Symbol::Real, Symbol::String, Symbol::Truth]);
+const NAMES: Symbols = Symbols::of(&[Symbol::Name]);
+const LEAVES: Symbols = Symbols::of(&[
+    Symbol::Name,
+    Symbol::Whole,
+    Symbol::Real,
+    Symbol::String,
+    Symbol::Truth,
+]);
 
 /// Reads an operation list: headers without bodies, up to the text's end.
-pub fn operation_list<'a>(text: &'a [u8], tokens: &[Token]) -> Result<Vec<Operation<'a>>, Fault> {
-    let mut reader = Reader::new(text, tokens);
-    let mut operations = Vec::new();
-    while !reader.rest.is_empty() {
-        operations.push(reader.operation()?);
+pub fn operation_list(text: &[u8], tokens: Vec<Token>) -> Result<List<'_>, Fault> {
+    let mut headers = Headers {
+        reader: Reader::new(&tokens),
+        operations: Vec::with_capacity(16),
+        parameters: Vec::with_capacity(64),
+        results: Vec::with_capacity(16),
+        types: Vec::new(),
+        pending: Vec::new(),
+    };
+    while headers.reader.next() != Symbol::End {
+        headers.operation()?;
     }
-    Ok(operations)
+    let Headers {
+        operations,
+        parameters,
+        results,
+        types,
+        ..
+    } = headers;
+    let count = operations.len() + parameters.len() + results.len();
+    Ok(List {
+        text,
+        tokens,
+        operations,
+        parameters,
+        results,
+        types,
+        names: Names::with_capacity(text, count),
+    })
 }
 
 /// Reads a document: the version, a graph's header and its body, the text's end.
-pub fn document<'a>(text: &'a [u8], tokens: &[Token]) -> Result<Document<'a>, Fault> {
-    let mut reader = Reader::new(text, tokens);
-    let document = reader.document()?;
-    if !reader.rest.is_empty() {
-        return reader.stop(codes::SYNTAX);
+pub fn document(text: &[u8], tokens: Vec<Token>) -> Result<Document<'_>, Fault> {
+    let mut reader = Reader::new(&tokens);
+    reader.expect(Symbol::Version)?;
+    let version = reader.number()?;
+    reader.expect(Symbol::Graph)?;
+    let name = reader.expect(Symbol::Name)?;
+    let inputs = reader.listed()?;
+    reader.expect(Symbol::Arrow)?;
+    let outputs = reader.listed()?;
+    reader.expect(Symbol::OpenCurly)?;
+    let mut calls = Vec::with_capacity(tokens.len() / 16 + 1);
+    let mut arguments = Vec::with_capacity(tokens.len() / 4 + 1);
+    calls.push(reader.call(&mut arguments)?);
+    while !reader.take(Symbol::CloseCurly) {
+        calls.push(reader.call(&mut arguments)?);
     }
-    Ok(document)
+    reader.expect_end()?;
+    Ok(Document {
+        text,
+        tokens,
+        version,
+        name,
+        inputs,
+        outputs,
+        calls,
+        arguments,
+    })
 }
 
-/// What values may hold where they stand.
-#[derive(Clone, Copy, PartialEq, Eq)]
-enum Leaves {
-    /// Defaults.
-    Literals,
-    /// Left sides.
-    Names,
-    /// Arguments.
-    Both,
+/// The headers that are read so far.
+struct Headers<'t> {
+    reader: Reader<'t>,
+    operations: Vec<Operation>,
+    parameters: Vec<Parameter>,
+    results: Vec<Token>,
+    types: Vec<Type>,
+    /// The items of tuple types, and the types of results, that are not read to their end.
+    pending: Vec<Type>,
 }
 
-struct Reader<'a, 't> {
-    text: &'a [u8],
-    /// The tokens that are not read yet.
-    rest: &'t [Token],
-    /// Brackets of arrays and tuples that are open.
-    open: usize,
-}
+impl Headers<'_> {
+    /// `fragment` and a header.
+    fn operation(&mut self) -> Result<(), Fault> {
+        let fragment = self.reader.expect(Symbol::Fragment)?;
+        let name = self.reader.expect(Symbol::Name)?;
+        let (first_parameter, first_result) = (self.parameters.len(), self.results.len());
+        self.reader.expect(Symbol::OpenRound)?;
+        let required = self.parameters()?;
+        self.reader.expect(Symbol::CloseRound)?;
+        self.reader.expect(Symbol::Arrow)?;
+        self.reader.expect(Symbol::OpenRound)?;
+        let result_type = self.results()?;
+        self.reader.expect(Symbol::CloseRound)?;
+        self.operations.push(Operation {
+            position: fragment.position(),
+            name,
+            parameters: Span::new(first_parameter, self.parameters.len()),
+            results: Span::new(first_result, self.results.len()),
+            result_type,
+            required,
+        });
+        Ok(())
+    }
 
-impl<'a, 't> Reader<'a, 't> {
-    fn new(text: &'a [u8], tokens: &'t [Token]) -> Self {
-        Reader {
-            text,
-            rest: tokens,
-            open: 0,
+    /// Parameters, and the mask of those without default.
+    fn parameters(&mut self) -> Result<u32, Fault> {
+        let mut required = 0;
+        let mut bit = 1;
+        loop {
+            if !self.parameter()? {
+                required |= bit;
+            }
+            bit <<= 1;
+            if !self.reader.take(Symbol::Comma) {
+                return Ok(required);
+            }
         }
     }
 
-    /// `fragment` and a header.
-    fn operation(&mut self) -> Result<Operation<'a>, Fault> {
-        let position = self.expect("fragment")?;
-        let name = self.name()?;
-        self.expect("(")?;
-        let parameters = self.several(Self::parameter)?;
-        self.expect(")")?;
-        self.expect("->")?;
-        self.expect("(")?;
-        let (results, types): (_, Vec<Type>) = self.several(Self::result)?.into_iter().unzip();
-        self.expect(")")?;
-        Ok(Operation {
-            position,
+    /// A parameter, and whether it has a default.
+    fn parameter(&mut self) -> Result<bool, Fault> {
+        let name = self.reader.expect(Symbol::Name)?;
+        self.reader.expect(Symbol::Colon)?;
+        let ty = self.ty()?;
+        let has_default = self.reader.take(Symbol::Equals);
+        let first = self.reader.at;
+        if has_default {
+            self.reader.value(LITERALS)?;
+        }
+        self.parameters.push(Parameter {
             name,
-            parameters,
-            results,
-            result_type: one_type(types),
+            number: 0,
+            ty,
+            default: Span::new(first, self.reader.at),
+        });
+        Ok(has_default)
+    }
+
+    /// Results, and their type.
+    fn results(&mut self) -> Result<Type, Fault> {
+        let mark = self.pending.len();
+        loop {
+            let name = self.reader.expect(Symbol::Name)?;
+            self.results.push(name);
+            self.reader.expect(Symbol::Colon)?;
+            let ty = self.ty()?;
+            self.pending.push(ty);
+            if !self.reader.take(Symbol::Comma) {
+                break;
+            }
+        }
+        if let [only] = self.pending[mark..] {
+            self.pending.truncate(mark);
+            return Ok(only);
+        }
+        Ok(Type {
+            arrays: 0,
+            item: self.tuple_of(mark),
         })
-    }
-
-    fn parameter(&mut self) -> Result<Parameter<'a>, Fault> {
-        let (name, ty) = self.result()?;
-        let default = if self.take("=") {
-            Some(self.value(Leaves::Literals)?)
-        } else {
-            None
-        };
-        Ok(Parameter { name, ty, default })
-    }
-
-    fn result(&mut self) -> Result<(Name<'a>, Type), Fault> {
-        let name = self.name()?;
-        self.expect(":")?;
-        Ok((name, self.ty()?))
     }
 
     /// A type: a basic type or a tuple of types, then any number of `[` `]`.
     fn ty(&mut self) -> Result<Type, Fault> {
-        let mut ty = if self.next_is("(") {
-            self.open("(")?;
-            let items = self.at_least_two(Self::ty)?;
-            self.close(")")?;
-            Type::Tuple(items)
-        } else {
-            self.basic_type()?
+        let item = match self.reader.next() {
+            Symbol::Tensor => self.basic(Item::Tensor),
+            Symbol::Extent => self.basic(Item::Extent),
+            Symbol::Scalar => self.basic(Item::Scalar),
+            Symbol::Logical => self.basic(Item::Logical),
+            Symbol::StringType => self.basic(Item::String),
+            Symbol::OpenRound => self.tuple_type()?,
+            _ => return self.reader.stop(codes::SYNTAX),
         };
-        while self.next_is("[") {
-            self.open("[")?;
-            self.close("]")?;
-            ty = Type::Array(Box::new(ty));
+        let mut arrays = 0;
+        while self.reader.next() == Symbol::OpenSquare {
+            self.reader.open()?;
+            self.reader.close(Symbol::CloseSquare)?;
+            arrays += 1;
         }
-        Ok(ty)
+        Ok(Type { arrays, item })
     }
 
-    fn basic_type(&mut self) -> Result<Type, Fault> {
-        const BASIC: [(&str, Type); 5] = [
-            ("tensor", Type::Tensor),
-            ("extent", Type::Extent),
-            ("scalar", Type::Scalar),
-            ("logical", Type::Logical),
-            ("string", Type::String),
-        ];
-        for (word, basic) in BASIC {
-            if self.take(word) {
-                return Ok(basic);
+    fn basic(&mut self, item: Item) -> Item {
+        self.reader.at += 1;
+        item
+    }
+
+    fn tuple_type(&mut self) -> Result<Item, Fault> {
+        let mark = self.pending.len();
+        self.reader.open()?;
+        let first = self.ty()?;
+        self.pending.push(first);
+        self.reader.expect(Symbol::Comma)?;
+        loop {
+            let next = self.ty()?;
+            self.pending.push(next);
+            if !self.reader.take(Symbol::Comma) {
+                break;
             }
         }
-        self.stop(codes::SYNTAX)
+        self.reader.close(Symbol::CloseRound)?;
+        Ok(self.tuple_of(mark))
     }
 
-    fn document(&mut self) -> Result<Document<'a>, Fault> {
-        self.expect("version")?;
-        let version = self.number()?;
-        self.expect("graph")?;
-        let name = self.name()?;
-        self.expect("(")?;
-        let inputs = self.several(Self::name)?;
-        self.expect(")")?;
-        self.expect("->")?;
-        self.expect("(")?;
-        let outputs = self.several(Self::name)?;
-        self.expect(")")?;
-        self.expect("{")?;
-        let mut calls = vec![self.call()?];
-        while !self.take("}") {
-            calls.push(self.call()?);
+    /// The tuple of the pending types from `mark` on.
+    fn tuple_of(&mut self, mark: usize) -> Item {
+        let first = self.types.len();
+        self.types.extend(self.pending.drain(mark..));
+        Item::Tuple(Span::new(first, self.types.len()))
+    }
+}
+
+struct Reader<'t> {
+    /// The tokens; the last is the text's end, which is never taken.
+    tokens: &'t [Token],
+    /// The place of the next token.
+    at: usize,
+    /// Brackets of arrays and tuples that are open.
+    open: usize,
+}
+
+impl<'t> Reader<'t> {
+    fn new(tokens: &'t [Token]) -> Self {
+        Reader {
+            tokens,
+            at: 0,
+            open: 0,
         }
-        Ok(Document {
-            version,
-            name,
-            inputs,
-            outputs,
-            calls,
-        })
     }
 
     /// A left side, `=`, an operation and its arguments, and `;` or not.
-    fn call(&mut self) -> Result<Call<'a>, Fault> {
-        let left = self.left()?;
-        self.expect("=")?;
-        let operation = self.name()?;
-        self.expect("(")?;
-        let arguments = self.several(Self::argument)?;
-        self.expect(")")?;
-        self.take(";");
+    fn call(&mut self, arguments: &mut Vec<Argument>) -> Result<Call, Fault> {
+        let (left, bare) = self.left()?;
+        self.expect(Symbol::Equals)?;
+        let operation = self.expect(Symbol::Name)?;
+        self.expect(Symbol::OpenRound)?;
+        let first = arguments.len();
+        arguments.push(self.argument()?);
+        while self.take(Symbol::Comma) {
+            arguments.push(self.argument()?);
+        }
+        self.expect(Symbol::CloseRound)?;
+        self.take(Symbol::Semicolon);
         Ok(Call {
             left,
+            bare,
             operation,
-            arguments,
+            arguments: Span::new(first, arguments.len()),
         })
     }
 
-    /// A left side; as a tuple it may be without brackets.
-    fn left(&mut self) -> Result<Value<'a>, Fault> {
-        let first = self.value(Leaves::Names)?;
-        if !self.take(",") {
-            return Ok(first);
+    /// A left side, and whether it is a tuple without brackets.
+    fn left(&mut self) -> Result<(Span, bool), Fault> {
+        let first = self.at;
+        self.value(NAMES)?;
+        let bare = self.take(Symbol::Comma);
+        if bare {
+            self.values(NAMES)?;
         }
-        let position = first.position;
-        let mut items = vec![first];
-        items.extend(self.several(|reader| reader.value(Leaves::Names))?);
-        Ok(Value {
-            position,
-            form: Form::Tuple(items),
+        Ok((Span::new(first, self.at), bare))
+    }
+
+    fn argument(&mut self) -> Result<Argument, Fault> {
+        let label = self.label();
+        let first = self.at;
+        self.value(LEAVES)?;
+        Ok(Argument {
+            label,
+            value: Span::new(first, self.at),
         })
     }
 
-    fn argument(&mut self) -> Result<Argument<'a>, Fault> {
-        let label = if self.label_is_next() {
-            let label = self.name()?;
-            self.expect("=")?;
-            Some(label)
-        } else {
-            None
-        };
-        let value = self.value(Leaves::Both)?;
-        Ok(Argument { label, value })
-    }
-
-    fn label_is_next(&self) -> bool {
-        match self.rest {
-            [first, second, ..] => first.kind == Kind::Name && self.bytes(*second) == b"=",
-            _ => false,
-        }
-    }
-
-    fn value(&mut self, leaves: Leaves) -> Result<Value<'a>, Fault> {
-        let Some(&token) = self.rest.first() else {
-            return self.stop(codes::SYNTAX);
-        };
-        let form = match (token.kind, self.bytes(token)) {
-            (Kind::Name, bytes) if leaves != Leaves::Literals => {
-                self.skip();
-                Form::Name(bytes)
-            }
-            (Kind::Whole | Kind::Real | Kind::String | Kind::Logical, bytes)
-                if leaves != Leaves::Names =>
+    /// Takes a name and the `=` behind it, if both are next.
+    fn label(&mut self) -> Option<Token> {
+        match self.tokens[self.at..] {
+            [name, equals, ..]
+                if name.symbol == Symbol::Name && equals.symbol == Symbol::Equals =>
             {
-                self.skip();
-                Form::Literal(token.kind, bytes)
+                self.at += 2;
+                Some(name)
             }
-            (_, b"[") => Form::Array(self.array(leaves)?),
-            (_, b"(") => Form::Tuple(self.tuple(leaves)?),
-            _ => return self.stop(codes::SYNTAX),
-        };
-        Ok(Value {
-            position: token.start,
-            form,
-        })
-    }
-
-    fn array(&mut self, leaves: Leaves) -> Result<Vec<Value<'a>>, Fault> {
-        self.open("[")?;
-        let items = if self.next_is("]") {
-            Vec::new()
-        } else {
-            self.several(|reader| reader.value(leaves))?
-        };
-        self.close("]")?;
-        Ok(items)
-    }
-
-    fn tuple(&mut self, leaves: Leaves) -> Result<Vec<Value<'a>>, Fault> {
-        self.open("(")?;
-        let items = self.at_least_two(|reader| reader.value(leaves))?;
-        self.close(")")?;
-        Ok(items)
-    }
-
-    /// One item or more with commas between them.
-    fn several<T>(
-        &mut self,
-        item: impl Fn(&mut Self) -> Result<T, Fault>,
-    ) -> Result<Vec<T>, Fault> {
-        let mut items = vec![item(self)?];
-        while self.take(",") {
-            items.push(item(self)?);
+            _ => None,
         }
-        Ok(items)
     }
 
-    /// Two items or more with commas between them.
-    fn at_least_two<T>(
-        &mut self,
-        item: impl Fn(&mut Self) -> Result<T, Fault>,
-    ) -> Result<Vec<T>, Fault> {
-        let mut items = vec![item(self)?];
-        self.expect(",")?;
-        items.extend(self.several(item)?);
-        Ok(items)
+    /// A value with these leaves. Arrays and tuples are in a function of their
+    /// own, so that leaves are read without a call.
+    #[inline(always)]
+    fn value(&mut self, leaves: Symbols) -> Result<(), Fault> {
+        if leaves.has(self.next()) {
+            self.at += 1;
+            return Ok(());
+        }
+        self.compound(leaves)
     }
 
-    /// Takes the bracket that is next, unless it is one too many.
-    fn open(&mut self, bracket: &str) -> Result<(), Fault> {
+    fn compound(&mut self, leaves: Symbols) -> Result<(), Fault> {
+        match self.next() {
+            Symbol::OpenSquare => {
+                self.open()?;
+                if self.next() != Symbol::CloseSquare {
+                    self.values(leaves)?;
+                }
+                self.close(Symbol::CloseSquare)
+            }
+            Symbol::OpenRound => {
+                self.open()?;
+                self.value(leaves)?;
+                self.expect(Symbol::Comma)?;
+                self.values(leaves)?;
+                self.close(Symbol::CloseRound)
+            }
+            _ => self.stop(codes::SYNTAX),
+        }
+    }
+
+    /// One value or more with commas between them.
+    #[inline(always)]
+    fn values(&mut self, leaves: Symbols) -> Result<(), Fault> {
+        self.value(leaves)?;
+        while self.take(Symbol::Comma) {
+            self.value(leaves)?;
+        }
+        Ok(())
+    }
+
+    /// One name or more with commas between them, in brackets.
+    fn listed(&mut self) -> Result<Span, Fault> {
+        self.expect(Symbol::OpenRound)?;
+        let first = self.at;
+        self.expect(Symbol::Name)?;
+        while self.take(Symbol::Comma) {
+            self.expect(Symbol::Name)?;
+        }
+        let end = self.at;
+        self.expect(Symbol::CloseRound)?;
+        Ok(Span::new(first, end))
+    }
+
+    fn number(&mut self) -> Result<Token, Fault> {
+        match self.next() {
+            Symbol::Whole => self.expect(Symbol::Whole),
+            _ => self.expect(Symbol::Real),
+        }
+    }
+
+    /// Takes the opening bracket that is next, unless it is one too many.
+    fn open(&mut self) -> Result<(), Fault> {
         if self.open == limits::BRACKETS {
             return self.stop(codes::TOO_DEEP);
         }
         self.open += 1;
-        self.expect(bracket)?;
+        self.at += 1;
         Ok(())
     }
 
-    fn close(&mut self, bracket: &str) -> Result<(), Fault> {
+    fn close(&mut self, bracket: Symbol) -> Result<(), Fault> {
         self.open -= 1;
         self.expect(bracket)?;
         Ok(())
     }
 
-    fn number(&mut self) -> Result<Value<'a>, Fault> {
-        match self.rest.first().map(|token| token.kind) {
-            Some(Kind::Whole | Kind::Real) => self.value(Leaves::Literals),
-            _ => self.stop(codes::SYNTAX),
+    fn expect_end(&self) -> Result<(), Fault> {
+        if self.next() != Symbol::End {
+            return self.stop(codes::SYNTAX);
         }
+        Ok(())
     }
 
-    fn name(&mut self) -> Result<Name<'a>, Fault> {
-        match self.rest {
-            [token, rest @ ..] if token.kind == Kind::Name => {
-                self.rest = rest;
-                Ok(Name {
-                    bytes: self.bytes(*token),
-                    position: token.start,
-                })
-            }
-            _ => self.stop(codes::SYNTAX),
+    /// Takes this very token, which is not the end.
+    fn expect(&mut self, symbol: Symbol) -> Result<Token, Fault> {
+        let token = self.tokens[self.at];
+        if token.symbol != symbol {
+            return self.stop(codes::SYNTAX);
         }
-    }
-
-    /// Takes this very token and gives its place.
-    fn expect(&mut self, spelling: &str) -> Result<u32, Fault> {
-        let position = self.position();
-        if self.take(spelling) {
-            Ok(position)
-        } else {
-            self.stop(codes::SYNTAX)
-        }
+        self.at += 1;
+        Ok(token)
     }
 
     /// Takes this very token if it is next, and says whether it was.
-    fn take(&mut self, spelling: &str) -> bool {
-        let is_next = self.next_is(spelling);
-        if is_next {
-            self.skip();
+    fn take(&mut self, symbol: Symbol) -> bool {
+        if self.next() != symbol {
+            return false;
         }
-        is_next
+        self.at += 1;
+        true
     }
 
-    fn next_is(&self, spelling: &str) -> bool {
-        let next = self.rest.first();
-        next.is_some_and(|&token| self.bytes(token) == spelling.as_bytes())
-    }
-
-    fn skip(&mut self) {
-        self.rest = &self.rest[1..];
-    }
-
-    fn bytes(&self, token: Token) -> &'a [u8] {
-        &self.text[token.start as usize..token.end as usize]
-    }
-
-    /// Where the next token, or the text's end, stands.
-    fn position(&self) -> u32 {
-        match self.rest.first() {
-            Some(token) => token.start,
-            None => self.text.len() as u32,
-        }
+    fn next(&self) -> Symbol {
+        self.tokens[self.at].symbol
     }
 
     /// Refuses at the next token or at the text's end.
+    #[cold]
     fn stop<T>(&self, code: u32) -> Result<T, Fault> {
-        Err(Fault::new(code, self.position()))
-    }
-}
-
-/// The one type, or the tuple of several.
-fn one_type(mut types: Vec<Type>) -> Type {
-    match types.len() {
-        1 => types.remove(0),
-        _ => Type::Tuple(types),
+        Err(Fault::new(code, self.tokens[self.at].position()))
     }
 }

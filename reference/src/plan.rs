@@ -1,40 +1,39 @@
 //! What an accepted document says, however it is spelt.
 
 use crate::binding::Binding;
-use crate::fitting;
-use crate::graph::{Declared, Graph};
-use crate::lexer::Kind;
-use crate::number::{Parts, Reduced};
-use crate::tree::{self, Form, Name, Type};
+use crate::graph::Graph;
+use crate::number::{self, Parts};
+use crate::token::{Span, Symbol, Token};
+use crate::tree::{self, Document, Item, List, Type};
 
 /// A document's plan under an operation list. Spacing, spelling, and whether a
 /// value was positional, named or a default are no part of it.
 #[derive(Debug, PartialEq, Eq)]
 pub struct Plan<'a> {
-    pub graph: &'a [u8],
-    pub inputs: Vec<&'a [u8]>,
-    pub outputs: Vec<&'a [u8]>,
-    pub calls: Vec<Call<'a>>,
+    graph: &'a [u8],
+    inputs: Vec<&'a [u8]>,
+    outputs: Vec<&'a [u8]>,
+    calls: Vec<Call<'a>>,
 }
 
 #[derive(Debug, PartialEq, Eq)]
-pub struct Call<'a> {
+struct Call<'a> {
     /// The operation's index in the list.
-    pub operation: usize,
+    operation: usize,
     /// The left side; a tuple at its top is the same with and without brackets.
-    pub left: Value<'a>,
+    left: Value<'a>,
     /// For every parameter in declared order its bound or default value.
-    pub values: Vec<Value<'a>>,
+    values: Vec<Value<'a>>,
 }
 
 /// A value read at a type.
 #[derive(Debug, PartialEq, Eq)]
-pub enum Value<'a> {
+enum Value<'a> {
     Name(&'a [u8]),
     /// A number at extent.
     Extent(u64),
-    /// A number at scalar or tensor.
-    Number(Reduced),
+    /// A number at scalar or tensor: its reduced mantissa and exponent.
+    Number(u64, i32),
     Logical(bool),
     /// A string's content.
     String(&'a [u8]),
@@ -44,78 +43,143 @@ pub enum Value<'a> {
 
 impl<'a> Plan<'a> {
     /// The plan of a document; one that has no faults has a plan.
-    pub fn new(graph: &Graph<'a>) -> Option<Plan<'a>> {
-        let document = graph.document;
-        let calls = graph.declared();
+    pub fn new(list: &'a List, document: &'a Document, graph: &Graph) -> Option<Plan<'a>> {
+        let names = |span| document.names(span).map(|name| name.bytes(document.text));
+        let calls = document.calls.iter().zip(&graph.calls);
         Some(Plan {
-            graph: document.name.bytes,
-            inputs: names(&document.inputs),
-            outputs: names(&document.outputs),
+            graph: document.name.bytes(document.text),
+            inputs: names(document.inputs).collect(),
+            outputs: names(document.outputs).collect(),
             calls: calls
-                .map(|(call, declared)| Call::new(call, declared))
+                .map(|(call, [operation, ..])| {
+                    let bindings = call.arguments.of(&graph.bindings);
+                    Call::new(list, document, call, *operation as usize, bindings)
+                })
                 .collect::<Option<_>>()?,
         })
     }
 }
 
 impl<'a> Call<'a> {
-    fn new(written: &'a tree::Call<'a>, declared: &Declared<'a>) -> Option<Call<'a>> {
-        let operation = declared.operation;
-        let mut bound = vec![None; operation.parameters.len()];
-        for (argument, binding) in written.arguments.iter().zip(&declared.bindings) {
-            if let Binding::Binds(index) = *binding {
-                bound[index] = Some(&argument.value);
+    fn new(
+        list: &'a List,
+        document: &'a Document,
+        written: &tree::Call,
+        index: usize,
+        bindings: &[Binding],
+    ) -> Option<Call<'a>> {
+        let operation = &list.operations[index];
+        let parameters = operation.parameters(list);
+        let mut values: Vec<Option<Value>> = parameters.iter().map(|_| None).collect();
+        for (argument, binding) in written
+            .arguments
+            .of(&document.arguments)
+            .iter()
+            .zip(bindings)
+        {
+            if let Binding::Binds(place) = *binding {
+                let place = usize::from(place);
+                let mut reading =
+                    Reading::new(list, document.text, &document.tokens, argument.value);
+                values[place] = Some(reading.value(parameters[place].ty)?);
             }
         }
-        let mut values = Vec::with_capacity(bound.len());
-        for (parameter, bound) in operation.parameters.iter().zip(bound) {
-            let value = bound.or(parameter.default.as_ref())?;
-            values.push(read(value, &parameter.ty)?);
+        for (value, parameter) in values.iter_mut().zip(parameters) {
+            if value.is_none() {
+                let mut reading = Reading::new(list, list.text, &list.tokens, parameter.default);
+                *value = Some(reading.value(parameter.ty)?);
+            }
         }
+        let mut left = Reading::new(list, document.text, &document.tokens, written.left);
         Some(Call {
-            operation: declared.index,
-            left: read(&written.left, &operation.result_type)?,
-            values,
+            operation: index,
+            left: match operation.result_type.item {
+                Item::Tuple(types) if written.bare => Value::Tuple(left.items(types)?),
+                _ => left.value(operation.result_type)?,
+            },
+            values: values.into_iter().collect::<Option<_>>()?,
         })
     }
 }
 
-/// A value read at a type, if it fits.
-fn read<'a>(value: &tree::Value<'a>, ty: &Type) -> Option<Value<'a>> {
-    match (&value.form, ty) {
-        (Form::Name(bytes), Type::Tensor) => Some(Value::Name(bytes)),
-        (Form::Literal(kind, bytes), _) => read_literal(*kind, bytes, ty),
-        (Form::Array(items), Type::Array(item_type)) => {
-            let mut read_items = Vec::with_capacity(items.len());
-            for item in items {
-                read_items.push(read(item, item_type)?);
-            }
-            Some(Value::Array(read_items))
-        }
-        (Form::Tuple(items), Type::Tuple(types)) if items.len() == types.len() => {
-            let mut read_items = Vec::with_capacity(items.len());
-            for (item, ty) in items.iter().zip(types) {
-                read_items.push(read(item, ty)?);
-            }
-            Some(Value::Tuple(read_items))
-        }
-        _ => None,
-    }
+/// Tokens of a text that are read at types.
+struct Reading<'a> {
+    types: &'a [Type],
+    text: &'a [u8],
+    rest: &'a [Token],
 }
 
-fn read_literal<'a>(kind: Kind, bytes: &'a [u8], ty: &Type) -> Option<Value<'a>> {
-    match (kind, ty) {
-        (Kind::Whole, Type::Extent) => fitting::extent(bytes).map(Value::Extent),
-        (Kind::Whole | Kind::Real, Type::Scalar | Type::Tensor) => {
-            let (parts, _) = Parts::at(bytes, 0);
-            parts.reduced().map(Value::Number)
+impl<'a> Reading<'a> {
+    fn new(list: &'a List, text: &'a [u8], tokens: &'a [Token], value: Span) -> Reading<'a> {
+        Reading {
+            types: &list.types,
+            text,
+            rest: value.of(tokens),
         }
-        (Kind::Logical, Type::Logical | Type::Tensor) => Some(Value::Logical(bytes == b"true")),
-        (Kind::String, Type::String) => Some(Value::String(&bytes[1..bytes.len() - 1])),
-        _ => None,
     }
-}
 
-fn names<'a>(names: &[Name<'a>]) -> Vec<&'a [u8]> {
-    names.iter().map(|name| name.bytes).collect()
+    /// The value that comes next, if it fits.
+    fn value(&mut self, ty: Type) -> Option<Value<'a>> {
+        if ty.arrays > 0 {
+            return self.array(ty.of_items()).map(Value::Array);
+        }
+        let Item::Tuple(types) = ty.item else {
+            return self.leaf(ty.item);
+        };
+        self.take(Symbol::OpenRound)?;
+        let items = self.items(types)?;
+        self.take(Symbol::CloseRound)?;
+        Some(Value::Tuple(items))
+    }
+
+    fn array(&mut self, ty: Type) -> Option<Vec<Value<'a>>> {
+        self.take(Symbol::OpenSquare)?;
+        let mut items = Vec::new();
+        while self.take(Symbol::CloseSquare).is_none() {
+            if !items.is_empty() {
+                self.take(Symbol::Comma)?;
+            }
+            items.push(self.value(ty)?);
+        }
+        Some(items)
+    }
+
+    fn items(&mut self, types: Span) -> Option<Vec<Value<'a>>> {
+        let mut items = Vec::new();
+        for ty in types.of(self.types) {
+            if !items.is_empty() {
+                self.take(Symbol::Comma)?;
+            }
+            items.push(self.value(*ty)?);
+        }
+        Some(items)
+    }
+
+    fn leaf(&mut self, item: Item) -> Option<Value<'a>> {
+        let (leaf, rest) = self.rest.split_first()?;
+        self.rest = rest;
+        let bytes = leaf.bytes(self.text);
+        match (leaf.symbol, item) {
+            (Symbol::Name, Item::Tensor) => Some(Value::Name(bytes)),
+            (Symbol::Whole, Item::Extent) if number::is_extent(bytes) => {
+                let digits = number::plain(bytes).iter();
+                let value = digits.fold(0, |value, digit| 10 * value + u64::from(digit - b'0'));
+                Some(Value::Extent(value))
+            }
+            (Symbol::Whole | Symbol::Real, Item::Scalar | Item::Tensor) => {
+                let (parts, _) = Parts::at(bytes, 0);
+                let reduced = parts.reduced()?;
+                Some(Value::Number(reduced.mantissa(), reduced.exponent))
+            }
+            (Symbol::Truth, Item::Logical | Item::Tensor) => Some(Value::Logical(bytes == b"true")),
+            (Symbol::String, Item::String) => Some(Value::String(&bytes[1..bytes.len() - 1])),
+            _ => None,
+        }
+    }
+
+    /// Takes this very token, if it is next.
+    fn take(&mut self, symbol: Symbol) -> Option<()> {
+        let (first, rest) = self.rest.split_first()?;
+        (first.symbol == symbol).then(|| self.rest = rest)
+    }
 }

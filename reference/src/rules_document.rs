@@ -1,184 +1,245 @@
-//! The rules of a document under an operation list, a function for each code.
+//! The rules of a document under an operation list: the header, then one walk
+//! over the calls, with a function for each code or two.
 
-use crate::binding::{self, Binding};
+use crate::binding::{Binder, Binding};
 use crate::codes;
-use crate::fault::Fault;
-use crate::fitting;
+use crate::fault::{Fault, First};
+use crate::fitting::Fitting;
 use crate::graph::Graph;
 use crate::limits;
-use crate::rules;
-use crate::tree::{Form, Name};
-use std::collections::HashSet;
+use crate::names::Names;
+use crate::token::{Span, Token};
+use crate::tree::{Argument, Call, Document, List, Operation};
 
 /// The operation that inputs come from.
 const EXTERNAL: &[u8] = b"external";
 
-/// Every fault of the document.
-pub fn faults(graph: &Graph) -> Vec<Fault> {
-    [
-        wrong_version(graph),
-        too_many(graph),
-        repeated(graph),
-        undeclared(graph),
-        misplaced(graph),
-        bad_labels(graph),
-        unfit_arguments(graph),
-        unbound(graph),
-        unmatched(graph),
-        assigned_again(graph),
-        not_assigned(graph),
-        wrongly_external(graph),
-        no_outputs(graph),
-    ]
-    .concat()
+/// What is known of an identifier.
+#[derive(Clone, Copy, Default)]
+struct Identifier {
+    /// The index of the call that assigns it first.
+    assigned_by: Option<u16>,
+    is_input: bool,
+    is_listed: bool,
 }
 
-/// 11: the version is not spelt `1.0`; at the literal.
-fn wrong_version(graph: &Graph) -> Vec<Fault> {
-    let version = &graph.document.version;
-    match version.form {
-        Form::Literal(_, b"1.0") => Vec::new(),
-        _ => vec![Fault::new(codes::VERSION, version.position)],
+/// Refuses with the first fault of the document, or gives its graph.
+pub fn keep(list: &List, document: &Document) -> Result<Graph, Fault> {
+    let mut walk = Walk::new(list, document);
+    walk.wrong_version();
+    walk.too_many_listed();
+    walk.list(document.inputs, true);
+    walk.list(document.outputs, false);
+    for (index, call) in document.calls.iter().enumerate() {
+        walk.call(index, call);
     }
+    walk.never_assigned(document.inputs, codes::EXTERNAL);
+    walk.never_assigned(document.outputs, codes::NO_OUTPUT);
+    walk.first.none()?;
+    Ok(walk.graph)
 }
 
-/// 12: inputs, outputs, calls, identifiers assigned or used above their size.
-fn too_many(graph: &Graph) -> Vec<Fault> {
-    let calls = || graph.calls.iter();
-    let lefts = calls().map(|call| call.written.left.position);
-    let assigned = calls().flat_map(|call| places(&call.assigned));
-    let used = calls().flat_map(|call| places(&call.used));
-    let beyond = [
-        rules::beyond(limits::INPUTS, places(&graph.document.inputs)),
-        rules::beyond(limits::OUTPUTS, places(&graph.document.outputs)),
-        rules::beyond(limits::CALLS, lefts),
-        rules::beyond(limits::ASSIGNED, assigned),
-        rules::beyond(limits::USED, used),
-    ];
-    beyond.into_iter().flatten().collect()
+struct Walk<'w> {
+    list: &'w List<'w>,
+    document: &'w Document<'w>,
+    fitting: Fitting<'w>,
+    first: First,
+    identifiers: Names<'w, Identifier>,
+    /// Identifiers assigned so far, places that assign one again too.
+    assigned: usize,
+    graph: Graph,
 }
 
-/// 13: a name repeated among the inputs and outputs.
-fn repeated(graph: &Graph) -> Vec<Fault> {
-    let document = graph.document;
-    rules::repeated(document.inputs.iter().chain(&document.outputs).copied())
-}
-
-/// 15: an operation that is not declared; at its name.
-fn undeclared(graph: &Graph) -> Vec<Fault> {
-    let calls = graph.calls.iter().filter(|call| call.declared.is_none());
-    calls
-        .map(|call| Fault::new(codes::UNDECLARED, call.written.operation.position))
-        .collect()
-}
-
-/// 16: a positional argument after a named one, beyond the parameters, or for one not all tensor.
-fn misplaced(graph: &Graph) -> Vec<Fault> {
-    graph
-        .arguments()
-        .filter(|(_, _, binding)| *binding == Binding::Misplaced)
-        .map(|(_, argument, _)| Fault::new(codes::MISPLACED, argument.position()))
-        .collect()
-}
-
-/// 17: a named argument that is unknown or bound already; at its name.
-fn bad_labels(graph: &Graph) -> Vec<Fault> {
-    graph
-        .arguments()
-        .filter(|(_, _, binding)| *binding == Binding::BadLabel)
-        .map(|(_, argument, _)| Fault::new(codes::BAD_LABEL, argument.position()))
-        .collect()
-}
-
-/// 18: a bound argument that does not fit; at its value's start.
-fn unfit_arguments(graph: &Graph) -> Vec<Fault> {
-    let mut faults = Vec::new();
-    for (operation, argument, binding) in graph.arguments() {
-        if let Binding::Binds(index) = binding {
-            if !fitting::fits(&argument.value, &operation.parameters[index].ty) {
-                faults.push(Fault::new(codes::UNFIT_ARGUMENT, argument.value.position));
-            }
+impl<'w> Walk<'w> {
+    fn new(list: &'w List<'w>, document: &'w Document<'w>) -> Walk<'w> {
+        let listed = document.inputs.len() + document.outputs.len();
+        let lefts: usize = document.calls.iter().map(|call| call.left.len()).sum();
+        Walk {
+            list,
+            document,
+            fitting: Fitting {
+                types: &list.types,
+                text: document.text,
+            },
+            first: First::default(),
+            identifiers: Names::with_capacity(document.text, listed + lefts),
+            assigned: 0,
+            graph: Graph {
+                calls: Vec::with_capacity(document.calls.len()),
+                wires: Vec::with_capacity(document.arguments.len()),
+                bindings: Vec::with_capacity(document.arguments.len()),
+            },
         }
     }
-    faults
-}
 
-/// 19: a parameter without default unbound, the first by its index; at the operation's name.
-fn unbound(graph: &Graph) -> Vec<Fault> {
-    let mut faults = Vec::new();
-    for (call, declared) in graph.declared() {
-        if let Some(index) = binding::first_unbound(declared.operation, &declared.bindings) {
-            faults.push(Fault {
-                detail: index as u32,
-                ..Fault::new(codes::UNBOUND, call.operation.position)
+    /// 11: the version is not spelt `1.0`; at the literal.
+    fn wrong_version(&mut self) {
+        let version = self.document.version;
+        if version.bytes(self.document.text) != b"1.0" {
+            self.first.note(codes::VERSION, version.position());
+        }
+    }
+
+    /// 12: inputs or outputs above their size; at the first beyond.
+    fn too_many_listed(&mut self) {
+        let document = self.document;
+        let beyond = [
+            document.names(document.inputs).nth(limits::INPUTS),
+            document.names(document.outputs).nth(limits::OUTPUTS),
+        ];
+        for name in beyond.into_iter().flatten() {
+            self.first.note(codes::TOO_MANY, name.position());
+        }
+    }
+
+    /// 13: a name repeated among the inputs and outputs; at the second one.
+    fn list(&mut self, names: Span, is_input: bool) {
+        for name in self.document.names(names) {
+            let (_, identifier) = self.identifiers.enter(name);
+            if identifier.is_listed {
+                self.first.note(codes::REPEATED, name.position());
+            }
+            identifier.is_listed = true;
+            identifier.is_input |= is_input;
+        }
+    }
+
+    fn call(&mut self, index: usize, call: &Call) {
+        if index == limits::CALLS {
+            let left = self.document.position(call.left);
+            self.first.note(codes::TOO_MANY, left);
+        }
+        let operation = self.operation(call);
+        let wires = self.graph.wires.len();
+        for argument in call.arguments.of(&self.document.arguments) {
+            self.uses(argument);
+        }
+        let used = self.graph.wires.len() - wires;
+        let assigned = self.assigns(index, call);
+        self.graph.calls.push([
+            operation as u32,
+            call.operation.position(),
+            assigned as u32,
+            used as u32,
+        ]);
+    }
+
+    /// The index of the call's operation, whose rules are looked at. 15: it is
+    /// not declared; at its name.
+    fn operation(&mut self, call: &Call) -> usize {
+        let list = self.list;
+        let found = list.names.find(call.operation.bytes(self.document.text));
+        let Some(index) = found.and_then(|(_, meaning)| meaning.operation) else {
+            self.first
+                .note(codes::UNDECLARED, call.operation.position());
+            return 0;
+        };
+        let operation = &list.operations[usize::from(index)];
+        self.arguments(call, operation);
+        self.unmatched(call, operation);
+        usize::from(index)
+    }
+
+    /// 19: a parameter without default unbound, the first by its index; at the
+    /// operation's name. For each argument 16 to 18.
+    fn arguments(&mut self, call: &Call, operation: &Operation) {
+        let mut binder = Binder::new(self.list, operation);
+        for argument in call.arguments.of(&self.document.arguments) {
+            let binding = binder.bind(argument.label, self.document.text);
+            self.bound(argument, binding, operation);
+            self.graph.bindings.push(binding);
+        }
+        if let Some(index) = binder.first_unbound(operation) {
+            self.first.note_fault(Fault {
+                detail: index,
+                ..Fault::new(codes::UNBOUND, call.operation.position())
             });
         }
     }
-    faults
-}
 
-/// 20: a left side that does not match the results; at its start.
-fn unmatched(graph: &Graph) -> Vec<Fault> {
-    graph
-        .declared()
-        .filter(|(call, declared)| !fitting::fits(&call.left, &declared.operation.result_type))
-        .map(|(call, _)| Fault::new(codes::UNMATCHED, call.left.position))
-        .collect()
-}
-
-/// 21: an identifier assigned again; at that place.
-fn assigned_again(graph: &Graph) -> Vec<Fault> {
-    let mut seen = HashSet::new();
-    let assigned = graph.calls.iter().flat_map(|call| &call.assigned);
-    assigned
-        .filter(|name| !seen.insert(name.bytes))
-        .map(|name| Fault::new(codes::ASSIGNED_AGAIN, name.position))
-        .collect()
-}
-
-/// 22: an identifier used that no earlier call assigns; at the use.
-fn not_assigned(graph: &Graph) -> Vec<Fault> {
-    let mut faults = Vec::new();
-    for (index, call) in graph.calls.iter().enumerate() {
-        for name in &call.used {
-            if graph.assigned_by(name).is_none_or(|by| by >= index) {
-                faults.push(Fault::new(codes::NOT_ASSIGNED, name.position));
+    /// 16: a positional argument after a named one, beyond the parameters, or for
+    /// one not all tensor; 17: a named argument that is unknown or bound already,
+    /// at its name; 18: one that is bound and does not fit, at its value.
+    fn bound(&mut self, argument: &Argument, binding: Binding, operation: &Operation) {
+        let document = self.document;
+        let start = document.position(argument.value);
+        match binding {
+            Binding::Binds(index) => {
+                let parameter = &operation.parameters(self.list)[usize::from(index)];
+                let value = argument.value.of(&document.tokens);
+                if !self.fitting.fits(value, parameter.ty) {
+                    self.first.note(codes::UNFIT_ARGUMENT, start);
+                }
+            }
+            Binding::Misplaced => self.first.note(codes::MISPLACED, start),
+            Binding::BadLabel => {
+                let label = argument.label.map_or(start, Token::position);
+                self.first.note(codes::BAD_LABEL, label);
             }
         }
     }
-    faults
-}
 
-/// 23: an input never assigned, or by another operation than `external`; a non-input by `external`.
-fn wrongly_external(graph: &Graph) -> Vec<Fault> {
-    let inputs = &graph.document.inputs;
-    let unassigned = inputs
-        .iter()
-        .filter(|name| graph.assigned_by(name).is_none());
-    let mut faults: Vec<Fault> = unassigned
-        .map(|name| Fault::new(codes::EXTERNAL, name.position))
-        .collect();
-    let inputs: HashSet<&[u8]> = inputs.iter().map(|name| name.bytes).collect();
-    for call in &graph.calls {
-        let external = call.written.operation.bytes == EXTERNAL;
-        for name in &call.assigned {
-            if inputs.contains(name.bytes) != external {
-                faults.push(Fault::new(codes::EXTERNAL, name.position));
+    /// 20: a left side that does not match the results; at its start.
+    fn unmatched(&mut self, call: &Call, operation: &Operation) {
+        let left = call.left.of(&self.document.tokens);
+        let matches = if call.bare {
+            self.fitting.bare_fits(left, operation.result_type)
+        } else {
+            self.fitting.fits(left, operation.result_type)
+        };
+        if !matches {
+            self.first.note(codes::UNMATCHED, left[0].position());
+        }
+    }
+
+    /// Wires the identifiers of an argument. 22: one that no earlier call
+    /// assigns; at the use. 12: one beyond the size.
+    fn uses(&mut self, argument: &Argument) {
+        for name in self.document.names(argument.value) {
+            if self.graph.wires.len() == limits::USED {
+                self.first.note(codes::TOO_MANY, name.position());
+            }
+            let found = self.identifiers.find(name.bytes(self.document.text));
+            let by = found.and_then(|(_, identifier)| identifier.assigned_by);
+            if by.is_none() {
+                self.first.note(codes::NOT_ASSIGNED, name.position());
+            }
+            let by = by.map_or(0, u32::from);
+            self.graph.wires.push([name.position(), by]);
+        }
+    }
+
+    /// Enters the identifiers of a left side, and counts them. 21: one assigned
+    /// again; 23: an input not by `external`, or another by it. 12: one beyond
+    /// the size.
+    fn assigns(&mut self, index: usize, call: &Call) -> usize {
+        let before = self.assigned;
+        let external = call.operation.bytes(self.document.text) == EXTERNAL;
+        for name in self.document.names(call.left) {
+            if self.assigned == limits::ASSIGNED {
+                self.first.note(codes::TOO_MANY, name.position());
+            }
+            self.assigned += 1;
+            let (_, identifier) = self.identifiers.enter(name);
+            if identifier.assigned_by.is_some() {
+                self.first.note(codes::ASSIGNED_AGAIN, name.position());
+            } else {
+                identifier.assigned_by = Some(index as u16);
+            }
+            if identifier.is_input != external {
+                self.first.note(codes::EXTERNAL, name.position());
+            }
+        }
+        self.assigned - before
+    }
+
+    /// 23, 24: an input, an output that is never assigned; at its place in the header.
+    fn never_assigned(&mut self, listed: Span, code: u32) {
+        for name in self.document.names(listed) {
+            let found = self.identifiers.find(name.bytes(self.document.text));
+            if found.is_none_or(|(_, identifier)| identifier.assigned_by.is_none()) {
+                self.first.note(code, name.position());
             }
         }
     }
-    faults
-}
-
-/// 24: an output never assigned; at its place in the header.
-fn no_outputs(graph: &Graph) -> Vec<Fault> {
-    let outputs = graph.document.outputs.iter();
-    outputs
-        .filter(|name| graph.assigned_by(name).is_none())
-        .map(|name| Fault::new(codes::NO_OUTPUT, name.position))
-        .collect()
-}
-
-fn places<'a>(names: &'a [Name]) -> impl Iterator<Item = u32> + 'a {
-    names.iter().map(|name| name.position)
 }

@@ -1,55 +1,81 @@
 //! The rules of an operation list, a function for each code.
 
 use crate::codes;
-use crate::fault::Fault;
-use crate::fitting;
+use crate::fault::{Fault, First};
+use crate::fitting::Fitting;
 use crate::limits;
-use crate::rules;
-use crate::tree::{Name, Operation};
+use crate::token::Token;
+use crate::tree::List;
 
-/// Every fault of the list.
-pub fn faults(list: &[Operation]) -> Vec<Fault> {
-    [too_many(list), repeated(list), unfit_defaults(list)].concat()
+/// Refuses with the first fault of the list, or numbers its names.
+pub fn keep(list: &mut List) -> Result<(), Fault> {
+    let mut first = First::default();
+    too_many(list, &mut first);
+    repeated_operations(list, &mut first);
+    repeated_in_headers(list, &mut first);
+    unfit_defaults(list, &mut first);
+    first.none()
 }
 
 /// 12: operations, parameters of one or results of one above their size.
-fn too_many(list: &[Operation]) -> Vec<Fault> {
-    let mut faults = Vec::new();
-    let fragments = list.iter().map(|operation| operation.position);
-    faults.extend(rules::beyond(limits::OPERATIONS, fragments));
-    for operation in list {
-        let parameters = parameters(operation).map(|name| name.position);
-        faults.extend(rules::beyond(limits::PARAMETERS, parameters));
-        let results = operation.results.iter().map(|name| name.position);
-        faults.extend(rules::beyond(limits::RESULTS, results));
+fn too_many(list: &List, first: &mut First) {
+    if let Some(operation) = list.operations.get(limits::OPERATIONS) {
+        first.note(codes::TOO_MANY, operation.position);
     }
-    faults
+    for operation in &list.operations {
+        if let Some(parameter) = operation.parameters(list).get(limits::PARAMETERS) {
+            first.note(codes::TOO_MANY, parameter.name.position());
+        }
+        if let Some(result) = operation.results.of(&list.results).get(limits::RESULTS) {
+            first.note(codes::TOO_MANY, result.position());
+        }
+    }
 }
 
-/// 13: an operation name repeated, or a name among one header's parameters and results.
-fn repeated(list: &[Operation]) -> Vec<Fault> {
-    let mut faults = rules::repeated(list.iter().map(|operation| operation.name));
-    for operation in list {
-        let results = operation.results.iter().copied();
-        faults.extend(rules::repeated(parameters(operation).chain(results)));
+/// 13: an operation name repeated; at the second one.
+fn repeated_operations(list: &mut List, first: &mut First) {
+    for (index, operation) in list.operations.iter().enumerate() {
+        let (_, meaning) = list.names.enter(operation.name);
+        if meaning.operation.is_some() {
+            first.note(codes::REPEATED, operation.name.position());
+        } else {
+            meaning.operation = Some(index as u16);
+        }
     }
-    faults
+}
+
+/// 13: a name repeated among one header's parameters and results; at the second one.
+fn repeated_in_headers(list: &mut List, first: &mut First) {
+    let names = &mut list.names;
+    let mut enter = |header: usize, name: Token| {
+        let (number, meaning) = names.enter(name);
+        if meaning.header == Some(header as u16) {
+            first.note(codes::REPEATED, name.position());
+        }
+        meaning.header = Some(header as u16);
+        number
+    };
+    for (header, operation) in list.operations.iter().enumerate() {
+        let parameters = operation.parameters.of_mut(&mut list.parameters);
+        for parameter in parameters {
+            parameter.number = enter(header, parameter.name);
+        }
+        for result in operation.results.of(&list.results) {
+            enter(header, *result);
+        }
+    }
 }
 
 /// 14: a default that does not fit; at its start.
-fn unfit_defaults(list: &[Operation]) -> Vec<Fault> {
-    let mut faults = Vec::new();
-    for parameter in list.iter().flat_map(|operation| &operation.parameters) {
-        match &parameter.default {
-            Some(default) if !fitting::fits(default, &parameter.ty) => {
-                faults.push(Fault::new(codes::UNFIT_DEFAULT, default.position));
-            }
-            _ => {}
+fn unfit_defaults(list: &List, first: &mut First) {
+    let fitting = Fitting {
+        types: &list.types,
+        text: list.text,
+    };
+    for parameter in &list.parameters {
+        let default = parameter.default.of(&list.tokens);
+        if !default.is_empty() && !fitting.fits(default, parameter.ty) {
+            first.note(codes::UNFIT_DEFAULT, default[0].position());
         }
     }
-    faults
-}
-
-fn parameters<'a>(operation: &'a Operation) -> impl Iterator<Item = Name<'a>> {
-    operation.parameters.iter().map(|parameter| parameter.name)
 }

@@ -1,106 +1,118 @@
-//! What texts say: operation lists and documents as trees.
+//! What texts say. A value, a left side or a default is the span of its tokens,
+//! which the parser has seen to be one.
 
-use crate::lexer::Kind;
+use crate::names::Names;
+use crate::token::{Span, Symbol, Token};
 
-/// A name and the place where it stands.
-#[derive(Clone, Copy, Debug, PartialEq, Eq)]
-pub struct Name<'a> {
-    pub bytes: &'a [u8],
-    pub position: u32,
+/// An operation list.
+pub struct List<'a> {
+    pub text: &'a [u8],
+    pub tokens: Vec<Token>,
+    pub operations: Vec<Operation>,
+    /// The parameters of all operations in a row.
+    pub parameters: Vec<Parameter>,
+    /// The names of the results of all operations in a row.
+    pub results: Vec<Token>,
+    /// The items of all tuple types, those of one in a row.
+    pub types: Vec<Type>,
+    /// The names of operations, parameters and results, once the rules are kept.
+    pub names: Names<'a, Meaning>,
+}
+
+/// What a name of an operation list stands for.
+#[derive(Clone, Copy, Default)]
+pub struct Meaning {
+    /// The index of the operation of that name.
+    pub operation: Option<u16>,
+    /// The index of the last header with a parameter or a result of that name.
+    pub header: Option<u16>,
 }
 
 /// An operation as its header declares it.
-#[derive(Debug)]
-pub struct Operation<'a> {
+pub struct Operation {
     /// Where `fragment` stands.
     pub position: u32,
-    pub name: Name<'a>,
-    pub parameters: Vec<Parameter<'a>>,
-    pub results: Vec<Name<'a>>,
+    pub name: Token,
+    pub parameters: Span,
+    pub results: Span,
     /// The one result's type, or the tuple of the types of several.
     pub result_type: Type,
+    /// The parameters without default, a bit for each of the first 32.
+    pub required: u32,
 }
 
-#[derive(Debug)]
-pub struct Parameter<'a> {
-    pub name: Name<'a>,
+pub struct Parameter {
+    pub name: Token,
+    /// The name's number among those of the list.
+    pub number: u16,
     pub ty: Type,
-    pub default: Option<Value<'a>>,
+    /// The default's tokens; none without a default.
+    pub default: Span,
 }
 
-#[derive(Clone, Debug, PartialEq, Eq)]
-pub enum Type {
+/// An item type in so many arrays.
+#[derive(Clone, Copy, Debug, PartialEq, Eq)]
+pub struct Type {
+    pub arrays: u8,
+    pub item: Item,
+}
+
+#[derive(Clone, Copy, Debug, PartialEq, Eq)]
+pub enum Item {
     Tensor,
     Extent,
     Scalar,
     Logical,
     String,
-    Array(Box<Type>),
-    Tuple(Vec<Type>),
-}
-
-/// A value, a left side or a default, and the place where it begins.
-#[derive(Debug)]
-pub struct Value<'a> {
-    pub position: u32,
-    pub form: Form<'a>,
-}
-
-#[derive(Debug)]
-pub enum Form<'a> {
-    Name(&'a [u8]),
-    Literal(Kind, &'a [u8]),
-    Array(Vec<Value<'a>>),
-    Tuple(Vec<Value<'a>>),
+    /// A tuple of these types of its list.
+    Tuple(Span),
 }
 
 /// A document: its version, its graph's name, inputs and outputs, and its body.
-#[derive(Debug)]
 pub struct Document<'a> {
-    pub version: Value<'a>,
-    pub name: Name<'a>,
-    pub inputs: Vec<Name<'a>>,
-    pub outputs: Vec<Name<'a>>,
-    pub calls: Vec<Call<'a>>,
+    pub text: &'a [u8],
+    pub tokens: Vec<Token>,
+    pub version: Token,
+    pub name: Token,
+    /// The inputs with commas between them.
+    pub inputs: Span,
+    /// The outputs with commas between them.
+    pub outputs: Span,
+    pub calls: Vec<Call>,
+    /// The arguments of all calls in a row.
+    pub arguments: Vec<Argument>,
 }
 
 /// An assignment of what an operation gives to a left side.
-#[derive(Debug)]
-pub struct Call<'a> {
-    pub left: Value<'a>,
-    pub operation: Name<'a>,
-    pub arguments: Vec<Argument<'a>>,
+pub struct Call {
+    pub left: Span,
+    /// Whether the left side is a tuple without brackets.
+    pub bare: bool,
+    pub operation: Token,
+    pub arguments: Span,
 }
 
 /// An argument; it is positional without a label.
-#[derive(Debug)]
-pub struct Argument<'a> {
-    pub label: Option<Name<'a>>,
-    pub value: Value<'a>,
+pub struct Argument {
+    pub label: Option<Token>,
+    pub value: Span,
 }
 
-impl Argument<'_> {
-    /// Where the argument begins: at its label, or at its value without one.
-    pub fn position(&self) -> u32 {
-        match self.label {
-            Some(label) => label.position,
-            None => self.value.position,
-        }
+impl Operation {
+    pub fn parameters<'l>(&self, list: &'l List) -> &'l [Parameter] {
+        self.parameters.of(&list.parameters)
     }
 }
 
-impl<'a> Value<'a> {
-    /// The names in the value, in reading order.
-    pub fn names(&self) -> Vec<Name<'a>> {
-        match &self.form {
-            Form::Name(bytes) => vec![Name {
-                bytes,
-                position: self.position,
-            }],
-            Form::Literal(..) => Vec::new(),
-            Form::Array(items) | Form::Tuple(items) => {
-                items.iter().flat_map(Value::names).collect()
-            }
-        }
+impl Document<'_> {
+    /// The names in a span, in reading order. A label is in no value's span.
+    pub fn names(&self, span: Span) -> impl Iterator<Item = Token> + '_ {
+        let tokens = span.of(&self.tokens).iter().copied();
+        tokens.filter(|token| token.symbol == Symbol::Name)
+    }
+
+    /// Where a span that is not empty begins.
+    pub fn position(&self, span: Span) -> u32 {
+        self.tokens[usize::from(span.first)].position()
     }
 }

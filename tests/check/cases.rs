@@ -135,7 +135,7 @@ const DEEP: Text = Once(
 );
 
 /// A list in which `external` gives an array.
-const ARRAY_EXTERNAL: Text = Once(
+pub const ARRAY_EXTERNAL: Text = Once(
     "fragment external(shape: extent[]) -> (output: tensor[]) \
      fragment scale(x: tensor, by: scalar = 1) -> (y: tensor)",
 );
@@ -313,7 +313,10 @@ pub const LISTS: &[ListCase] = &[
     bad_list(14, Once("fragment f(x: extent = @1.5, x: extent) -> (y: tensor)")),
     bad_list(13, Once("fragment f(x: extent, @x: extent = 1.5) -> (y: tensor)")),
     bad_list(14, Pieces(&[("fragment f(p: tensor = @'s'", 1), (", p%: tensor", 32), (") -> (y: tensor)", 1)])),
-    bad_list(13, Pieces(&[("fragment f(x: tensor, @x: tensor) -> (y: tensor) ", 1), ("fragment f%(x: tensor) -> (y: tensor) ", 128)])),
+    bad_list(13, Pieces(&[("fragment f(x: tensor, @x: tensor) -> (y: tensor) ", 1), ("fragment f%(x: tensor) -> (y: tensor) ", 128)])),    bad_list(12, Pieces(&[("fragment f(p: tensor", 1), (", p%: tensor", 31), (", @q: tensor) -> (y: tensor) fragment f(x: tensor) -> (y: tensor)", 1)])),
+    bad_list(12, Pieces(&[("fragment f(p: tensor", 1), (", p%: tensor", 31), (", @q: tensor, r: tensor = 's') -> (y: tensor)", 1)])),
+    bad_list(13, Once("fragment f(x: tensor, @x: tensor) -> (y: tensor) fragment g(x: extent = 1.5) -> (y: tensor)")),
+    bad_list(14, Once("fragment f(x: extent = @1.5) -> (y: tensor) fragment f(x: tensor) -> (x: tensor)")),
 ];
 
 #[rustfmt::skip]
