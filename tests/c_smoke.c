@@ -76,6 +76,40 @@ static int takes_overlap(void)
                               calls, NNEF_CALL_WORDS, wires, NNEF_WIRE_WORDS), NNEF_SYNTAX, 2, 0, 0);
 }
 
+#define NAMED(code) (strcmp(nnef_code_name(NNEF_##code), #code) == 0)
+
+/* Every code has its own name and a text; other numbers have neither. */
+static int names_codes(void)
+{
+    uint32_t code;
+    for (code = NNEF_ACCEPTED; code <= NNEF_OUT_TOO_SHORT; code++) {
+        if (strcmp(nnef_code_text(code), nnef_code_text(27)) == 0) {
+            return 0;
+        }
+    }
+    return NAMED(ACCEPTED) && NAMED(LENT_TOO_SHORT) && NAMED(TEXT_TOO_LONG) && NAMED(NO_TOKEN)
+        && NAMED(NUMBER_MISSPELT) && NAMED(BAD_STRING) && NAMED(TOKEN_TOO_LONG) && NAMED(OUT_OF_RANGE)
+        && NAMED(TOO_MANY_TOKENS) && NAMED(SYNTAX) && NAMED(TOO_DEEP) && NAMED(VERSION) && NAMED(TOO_MANY)
+        && NAMED(REPEATED) && NAMED(BAD_DEFAULT) && NAMED(UNDECLARED) && NAMED(MISPLACED) && NAMED(MISNAMED)
+        && NAMED(MISFIT) && NAMED(MISSING) && NAMED(UNMATCHED) && NAMED(AGAIN) && NAMED(UNASSIGNED)
+        && NAMED(MISFED) && NAMED(UNMADE) && NAMED(CANON_TOO_LONG) && NAMED(OUT_TOO_SHORT)
+        && strcmp(nnef_code_name(27), "UNKNOWN") == 0;
+}
+
+static int stands(const char *text, size_t position, size_t line, size_t column)
+{
+    nnef_place place = nnef_place_of((const uint8_t *)text, strlen(text), position);
+    return place.line == line && place.column == column;
+}
+
+/* A line feed is the last byte of its line; the end is a place too. */
+static int finds_places(void)
+{
+    return stands("", 0, 1, 1) && stands("ab\ncd", 0, 1, 1) && stands("ab\ncd", 2, 1, 3) && stands("ab\ncd", 3, 2, 1)
+        && stands("ab\ncd", 5, 2, 3) && stands("ab\ncd", 16384, 2, 3) && stands("ab\n", 3, 2, 1)
+        && nnef_place_of(NULL, 0, 7).line == 1;
+}
+
 int main(void)
 {
     int good = answers(tokens_of(TEXT, NNEF_TABLE_WORDS), NNEF_ACCEPTED, 0, 0, 11)
@@ -93,6 +127,8 @@ int main(void)
         && out[0] == 0
         && answers(canon_of(DOCUMENT, NNEF_WORK_WORDS, NNEF_TEXT_BYTES), NNEF_ACCEPTED, 0, 0, 88)
         && memcmp(out, CANONICAL, sizeof CANONICAL) == 0
+        && names_codes()
+        && finds_places()
         && takes_null()
         && takes_overlap();
     puts(good ? "from C: as the header says" : "from C: WRONG");

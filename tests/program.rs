@@ -1,12 +1,4 @@
-//! What the test programs share: their arguments and what they print.
-
-/// The number that an argument says.
-pub fn number(argument: Option<String>, default: u64) -> u64 {
-    match argument {
-        Some(text) => text.parse().expect("an argument is not a number"),
-        None => default,
-    }
-}
+//! What the test programs print.
 
 /// A text for the eye: its length and its first bytes.
 pub fn shown(text: &[u8]) -> String {

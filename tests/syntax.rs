@@ -3,9 +3,11 @@
 //! Arguments: the program, the number of cases (20000), and the seed (1).
 
 mod program;
+mod progress;
 
 use nnef_random::{Lines, Rng, SORTS};
-use program::{codes_met, number, shown};
+use program::{codes_met, shown};
+use progress::Progress;
 use std::io::Write;
 use std::process::{Command, ExitCode, Stdio};
 
@@ -36,13 +38,23 @@ fn main() -> ExitCode {
     }
 }
 
+/// The number that an argument says.
+fn number(argument: Option<String>, default: u64) -> u64 {
+    match argument {
+        Some(text) => text.parse().expect("an argument is not a number"),
+        None => default,
+    }
+}
+
 /// Runs all cases in batches and gives the number of differences.
 fn differences(program: &str, count: u64, seed: u64) -> usize {
     let mut by_code = [0usize; 11];
     let mut different = 0;
     let mut batch = Vec::new();
     let mut bytes = 0;
+    let progress = Progress::new("syntax", count);
     for number in 0..count {
+        progress.step();
         let case = case(seed, number);
         by_code[case.answer[0] as usize] += 1;
         if bytes + case.line.len() + 1 > BATCH {
