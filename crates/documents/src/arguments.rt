@@ -128,7 +128,7 @@ fn positional(words: &[u32], o: Operation, t: Tally) -> Aim
         return refused;
     }
     Aim {
-        code: 0,
+        code: lexis::code::Code::ACCEPTED,
         number: p,
         value: t.at,
         leads: true,
@@ -172,7 +172,7 @@ fn named(
         return refused;
     }
     Aim {
-        code: 0,
+        code: lexis::code::Code::ACCEPTED,
         number: p,
         value: t.at + 2,
         leads: false,
@@ -332,7 +332,7 @@ fn with_argument(
     ensures meaning { λ r. ⌜ OfOne (now (dtext .entry)) (now (dtable .entry)) dn (now (ltext .entry)) (now (ltable .entry)) (now (words .entry)) ln o t r ⌝ }
 {
     let a = aim_of(dtext, dtable, dn, ltext, ltable, ln, words, o, t);
-    if a.code == 0 {
+    if a.code == lexis::code::Code::ACCEPTED {
         return with_bound(dtext, dtable, dn, ltext, ltable, ln, words, o, t, a);
     }
     let fault = fault_at(dtext, dtable, dn, t.at, a.code);

@@ -6,6 +6,7 @@ use index::enter;
 use index::keep_word;
 use index::look_up;
 use index::token::bytes_at;
+use lexis::code::Code;
 use lexis::symbol::Symbol;
 use lists::best::Best;
 use lists::word::start_at;
@@ -42,7 +43,7 @@ fn listed_at(
     }
     let p = enter(text, table, n, &mut *index, i);
     let had = keep_word(&mut *index, p, Word::LISTING, which);
-    let again = code_if(had != 0, lists::code::Code::REPEATED_NAME, 0);
+    let again = code_if(had != 0, lists::code::Code::REPEATED_NAME, Code::ACCEPTED);
     let code = code_if(tally.count == size, lists::code::Code::OVER_SIZE, again);
     tally.next(code, start_at(table, i))
 }

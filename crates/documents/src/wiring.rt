@@ -112,7 +112,11 @@ fn assigned_at(
     let p = enter(text, table, n, &mut *index, i);
     let input = word_of(index, p, Word::LISTING) == Word::INPUT;
     let had = keep_word(&mut *index, p, Word::ASSIGNER, k + 1);
-    let fed = code_if(misfeeds(external, input), Code::MISFED, 0);
+    let fed = code_if(
+        misfeeds(external, input),
+        Code::MISFED,
+        lexis::code::Code::ACCEPTED,
+    );
     let again = code_if(had != 0, Code::ASSIGNED_AGAIN, fed);
     let code = code_if(
         tally.count == Limits::ASSIGNED,
@@ -220,7 +224,11 @@ fn used_at(
         Word::ASSIGNER,
     );
     wire(&mut *records, tally.count, place, wired(a, k));
-    let unwired = code_if(is_unwired(a, k), Code::UNASSIGNED_USE, 0);
+    let unwired = code_if(
+        is_unwired(a, k),
+        Code::UNASSIGNED_USE,
+        lexis::code::Code::ACCEPTED,
+    );
     let code = code_if(
         tally.count == Limits::USES,
         lists::code::Code::OVER_SIZE,
