@@ -64,7 +64,7 @@ fn open_after(k: usize, s: u32) -> usize
 }
 
 // The first place from `at` on where the bracket before `at` closes, or the end.
-pub fn closing(text: &[u8], table: &[u32], n: usize, at: usize) -> usize
+fn closing(text: &[u8], table: &[u32], n: usize, at: usize) -> usize
     requires { ⌜ Holds (now text) (now table) n ⌝ }
     ensures { λ r. ⌜ (min at n ≤ r) × (r ≤ n)
         × (toks (now (text .entry)) (now (table .entry)) n r ≡ fromClose 1 (toks (now (text .entry)) (now (table .entry)) n at)) ⌝ }

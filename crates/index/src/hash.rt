@@ -58,7 +58,7 @@ fn long_hash(w: &[u8], first: u64) -> u64
 }
 
 // The hash of a spelling.
-pub fn hash(w: &[u8]) -> u64
+fn hash(w: &[u8]) -> u64
     ensures { λ r. ⌜ r ≡ hashOf (now (w .entry)) ⌝ }
 {
     let n = w.len();

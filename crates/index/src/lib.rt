@@ -21,7 +21,7 @@ ghost use Rattle.index.specs.Indexed.{Walkable};
 ghost use Rattle.index.specs.Mapped.{keptIn, Finds, LooksUp, Enters};
 
 // One more than the place of the name that is spelt w; 0 where there is none.
-pub fn find(text: &[u8], table: &[u32], n: usize, index: &[u16], w: &[u8]) -> usize
+fn find(text: &[u8], table: &[u32], n: usize, index: &[u16], w: &[u8]) -> usize
     requires { ⌜ Holds (now text) (now table) n ⌝ }
     requires { ⌜ Walkable (now index) n n ⌝ }
     ensures { λ r. ⌜ Finds (now (text .entry)) (now (table .entry)) (now (index .entry)) (now (w .entry)) r ⌝ }

@@ -1,7 +1,7 @@
 // Every size, stated once, and the test of a count against each.
 ghost use mathlib.Core.Path.{_≡_};
 ghost use lib.Dec.{leb, ltb};
-ghost use Rattle.lexis.specs.Sizes.{maxText, maxTokens, maxName, maxString, maxNumber, maxOperations, tableWords, workWords, callWords, wireWords};
+ghost use Rattle.lexis.specs.Sizes.{maxText, maxTokens, maxName, maxString, maxNumber, tableWords, workWords, callWords, wireWords};
 
 pub struct Limits {}
 
@@ -110,12 +110,6 @@ impl Limits {
         ensures { λ r. ⌜ r ≡ leb n maxNumber ⌝ }
     {
         n <= Limits::NUMBER
-    }
-
-    pub fn operations_fit(n: usize) -> bool
-        ensures { λ r. ⌜ r ≡ leb n maxOperations ⌝ }
-    {
-        n <= Limits::OPERATIONS
     }
 
     pub fn tokens_fit(n: usize) -> bool

@@ -50,7 +50,7 @@ fn scaled(x: u64, n: usize) -> u64
 }
 
 // One digit more.
-pub fn pushed(m: Mantissa, b: u8) -> Mantissa
+fn pushed(m: Mantissa, b: u8) -> Mantissa
     requires { ⌜ m .value ≤ mantissaEnd ⌝ }
     requires { ⌜ m .zeros ≤ maxNumber + maxNumber ⌝ }
     ensures { λ r. ⌜ r ≡ push m b ⌝ }

@@ -18,7 +18,7 @@ pub enum Run {
 }
 
 // Whether a byte belongs to a run.
-pub fn belongs(classes: &[u8; 256], run: Run, b: u8) -> bool
+fn belongs(classes: &[u8; 256], run: Run, b: u8) -> bool
     requires { ⌜ now classes ≡ classTable ⌝ }
     ensures { λ r. ⌜ r ≡ passes run b ⌝ }
 {

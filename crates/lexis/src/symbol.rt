@@ -77,7 +77,7 @@ fn symbol_if(w: &[u8], spelling: &[u8], s: u32) -> u32
 }
 
 // The terminal of a keyword, by its spelling. Its first byte leaves one or two words to compare it with.
-pub fn keyword(w: &[u8]) -> u32
+fn keyword(w: &[u8]) -> u32
     ensures { λ r. ⌜ r ≡ keywordSymbol (now (w .entry)) ⌝ }
 {
     let first = byte_at(w, 0);

@@ -31,7 +31,7 @@ pub fn byte_at(text: &[u8], i: usize) -> u8
 }
 
 // A name, a keyword, true or false.
-pub fn word_at(classes: &[u8; 256], text: &[u8], at: usize) -> Lexeme
+fn word_at(classes: &[u8; 256], text: &[u8], at: usize) -> Lexeme
     requires { ⌜ now classes ≡ classTable ⌝ }
     requires { ⌜ at < length (now text) ⌝ }
     ensures { λ r. ⌜ r ≡ wordLexeme (drop at (now (text .entry))) ⌝ }
@@ -46,7 +46,7 @@ pub fn word_at(classes: &[u8; 256], text: &[u8], at: usize) -> Lexeme
 }
 
 // A string whose opening quote stands at `at`.
-pub fn string_at(classes: &[u8; 256], text: &[u8], at: usize) -> Lexeme
+fn string_at(classes: &[u8; 256], text: &[u8], at: usize) -> Lexeme
     requires { ⌜ now classes ≡ classTable ⌝ }
     requires { ⌜ at < length (now text) ⌝ }
     ensures { λ r. ⌜ r ≡ stringLexeme (getD (now (text .entry)) at 0) (drop (at + 1) (now (text .entry))) ⌝ }
@@ -84,7 +84,7 @@ fn takes_equal(a: u8) -> bool
 }
 
 // An operator or a syntactic character: a is its first byte, of class k, b the next, 0 where there is none.
-pub fn mark_of(k: u8, a: u8, b: u8) -> Lexeme
+fn mark_of(k: u8, a: u8, b: u8) -> Lexeme
     requires { ⌜ k ≡ classOf a ⌝ }
     ensures { λ r. ⌜ r ≡ markLexeme a b ⌝ }
 {

@@ -29,13 +29,13 @@ ghost use Rattle.lists.specs.Fitting.{Within, isWhole, OfItem, BaseOf, O
 
 // The answer of the functions here is the place after the value where it fits, which is never 0, and 0 where not. Numbers cross a call in
 // a register, and these functions call each other for every bracket.
-pub const MISFIT: usize = 0;
+const MISFIT: usize = 0;
 
 // A number of fewer bytes is at most 2,147,483,647, whatever the bytes are.
 const SHORT: usize = 8;
 
 // The number of a digit.
-pub fn digit(b: u8) -> u64
+fn digit(b: u8) -> u64
     ensures range { λ r. ⌜ r < 256 ⌝ }
     ensures meaning { λ r. ⌜ r ≡ b - byte "0" ⌝ }
 {

@@ -7,7 +7,7 @@ mod headers;
 pub mod list;
 pub mod mask;
 pub mod operation;
-pub mod scan;
+mod scan;
 pub mod types;
 pub mod word;
 

@@ -6,9 +6,6 @@ ghost use Prim.Native.Nat.{_<_};
 ghost use lib.ListN.{length, getD, set};
 ghost use Rattle.lists.specs.Masks.{maskOf};
 
-// A mask has room for as many parameters as an operation may have.
-pub const MASK_BITS: u32 = 32;
-
 // Whether parameter k is in the mask.
 pub fn holds(mask: u32, k: u32) -> bool
     requires { ⌜ k < 32 ⌝ }
