@@ -1,7 +1,7 @@
--- The calls of a body: the row of them is `Calls` up to its closing bracket, and `Calls` go on where others end. Assumes nothing.
+-- The calls of a body: the row of them is `Calls` up to its closing bracket. Assumes nothing.
 use mathlib.Core.Path.{_≡_, refl}
 use mathlib.Core.Bool.{Bool, true, false, cond}
-use mathlib.Core.List.{List, [], _∷_, _++_}
+use mathlib.Core.List.{List, [], _∷_}
 use Prim.Native.Nat.{ℕ, zero, suc}
 use native.Mathlib.Omega.{arith}
 use lib.Dec.{eqb}
@@ -59,8 +59,3 @@ module _ (b : ℕ) where
   pub body-ok : (ts : List Token) (cs : List Call) (ws : List Token) → row plain (closed rightCurly) (call b) ts ≡ ok cs ws → Body b ts cs ws
   unfolding row
   body-ok ts cs ws e = body-fuel (suc (length ts)) ts cs ws e
-
--- one call more
-pub calls-last : {b : ℕ} {ts us ws : List Token} {ds : List Call} {c : Call} → Calls b ts ds us → call b us ≡ ok c ws → Calls b ts (ds ++ (c ∷ [])) ws
-calls-last no-call e = a-call e no-call
-calls-last (a-call h r) e = a-call h (calls-last r e)

@@ -1,21 +1,21 @@
 -- A parameter that is sought. By name: the one of that name (`Only`), where no name is repeated, or none (`None`). By place: the one
--- there (`Nth`), or none.
+-- there (`Nth`).
 use mathlib.Core.Path.{_≡_, refl, sym, ap, ap₂, _∙_}
 use mathlib.Core.Bool.{Bool, true, false, cond, _&&_, _||_, or-false, true≢false, false≢true}
-use mathlib.Core.List.{List, [], _∷_, _++_, map}
+use mathlib.Core.List.{List, [], _∷_, _++_}
 use mathlib.Core.Option.{Option, some}
 use mathlib.Core.Option.{none as nothing}
 use Prim.Native.Nat.{ℕ, zero, suc, _+_}
 use native.Mathlib.Omega.{arith}
 use lib.Dec.{eqb}
 use lib.ListN.{drop}
-use borrow.Author.Tests.{eqb-true, eqb-false, eq-eqb}
+use borrow.Author.Tests.{eqb-true, eq-eqb}
 use Rattle.lexis.specs.Lexer.{Token}
 use Rattle.lexis.specs.Words.{sameBytes}
-use Rattle.syntax.specs.Tree.{Param, Result, Header}
+use Rattle.syntax.specs.Tree.{Param}
 use Rattle.lists.specs.Names.{isAmong, repeatsAfter, repeats}
 use Rattle.lists.specs.Reading.{allTensor}
-use Rattle.lists.specs.ListRules.{paramNames, headerNames}
+use Rattle.lists.specs.ListRules.{paramNames}
 use Rattle.documents.specs.Binding.{takesPlace}
 use Rattle.documents.specs.Arguments.{Indexed, seek}
 use Rattle.documents.specs.Tallies.{Nth}
@@ -115,17 +115,6 @@ none-again t seen (p ∷ ps) far h =
     let f = fresh seen (p .name) (paramNames ps) h in
     cons (far (p .name) (f .new)) (none-again t (seen ++ (p .name ∷ [])) ps (λ s n. far s (among-less seen (p .name) s n)) (f .rest))
 
--- the first of several names are apart where all are
-apart-prefix : (seen ss rs : List Token) → repeatsAfter seen (ss ++ rs) ≡ [] → repeatsAfter seen ss ≡ []
-unfolding repeatsAfter
-apart-prefix seen [] rs h = refl
-apart-prefix seen (s ∷ ss) rs h =
-    let f = fresh seen s (ss ++ rs) h in
-    rw (f .new) (apart-prefix (seen ++ (s ∷ [])) ss rs (f .rest))
-
-pub params-apart : (h : Header) → repeats (headerNames h) ≡ [] → repeats (paramNames (h .params)) ≡ []
-params-apart h e = apart-prefix [] (paramNames (h .params)) (map (λ (r : Result). r .name) (h .results)) e
-
 none-nth : {t : Token} {i : ℕ} {p : Param} {ps : List Param} → None t ps → Nth i p ps → alike p t ≡ false
 none-nth (cons h n) nth-first = h
 none-nth (cons h n) (after k) = none-nth n k
@@ -207,60 +196,6 @@ seek-only t ps s d h =
 
 -- ---- the parameter at a place
 
--- sought by place
-abbrev pub ofPlace : ℕ → ℕ → Param → Bool
-ofPlace i k p = eqb k i
-
-record Placed (i k : ℕ) (ps : List Param) (s : Indexed) : Type 0 where
-  place : ℕ
-  number : s .index ≡ k + place
-  sought : i ≡ k + place
-  nth : Nth place (s .param) ps
-
-seek-from : (i k : ℕ) (ps : List Param) (s : Indexed) → seek (ofPlace i) k ps ≡ some s → Placed i k ps s
-unfolding seek
-seek-from i k [] s h = clash h
-seek-from i k (p ∷ ps) s h = go (eqb k i) refl h (seek-from i (suc k) ps s)
-  where
-    go : (b : Bool) → eqb k i ≡ b → cond b (some (record { index = k; param = p })) (seek (ofPlace i) (suc k) ps) ≡ some s
-        → (seek (ofPlace i) (suc k) ps ≡ some s → Placed i (suc k) ps s) → Placed i k (p ∷ ps) s
-    go true e q ih =
-        let r : record { index = k; param = p } ≡ s = cc in
-        let n : k ≡ k + 0 = omega arith in
-        let m : i ≡ k + 0 = omega (arith, eqb-true k i e) in
-        rw (← r) (record { place = 0; number = n; sought = m; nth = nth-first })
-    go false e q ih =
-        let u = ih q in
-        record { place = suc (u .place); number = omega (arith, u .number); sought = omega (arith, u .sought); nth = after (u .nth) }
-
-pub seek-nth : (i : ℕ) (ps : List Param) (s : Indexed) → seek (ofPlace i) 0 ps ≡ some s → Nth i (s .param) ps
-seek-nth i ps s h =
-    let u = seek-from i 0 ps s h in
-    let e : i ≡ u .place = omega (arith, u .sought) in
-    rw e (u .nth)
-
-pub seek-number : (i : ℕ) (ps : List Param) (s : Indexed) → seek (ofPlace i) 0 ps ≡ some s → s .index ≡ i
-seek-number i ps s h = let u = seek-from i 0 ps s h in omega (arith, u .number, u .sought)
-
 pub nth-takes : {j : ℕ} {p : Param} {ps : List Param} → Nth j p ps → takesPlace (drop j ps) ≡ allTensor (p .ty)
 nth-takes nth-first = refl
 nth-takes (after h) = nth-takes h
-
-seek-beyond : (i j k : ℕ) (ps : List Param) → i ≡ k + j → seek (ofPlace i) k ps ≡ nothing → takesPlace (drop j ps) ≡ false
-unfolding seek
-seek-beyond i zero k [] e h = refl
-seek-beyond i (suc j) k [] e h = refl
-seek-beyond i zero k (p ∷ ps) e h = go (eqb k i) refl h
-  where
-    go : (b : Bool) → eqb k i ≡ b → cond b (some (record { index = k; param = p })) (seek (ofPlace i) (suc k) ps) ≡ nothing → allTensor (p .ty) ≡ false
-    go true f q = clash (sym q)
-    go false f q = absurd (eqb-false k i f (omega arith))
-seek-beyond i (suc j) k (p ∷ ps) e h = go (eqb k i) h (seek-beyond i j (suc k) ps (omega arith))
-  where
-    go : (b : Bool) → cond b (some (record { index = k; param = p })) (seek (ofPlace i) (suc k) ps) ≡ nothing
-        → (seek (ofPlace i) (suc k) ps ≡ nothing → takesPlace (drop j ps) ≡ false) → takesPlace (drop j ps) ≡ false
-    go true q ih = clash (sym q)
-    go false q ih = ih q
-
-pub seek-no-place : (i : ℕ) (ps : List Param) → seek (ofPlace i) 0 ps ≡ nothing → takesPlace (drop i ps) ≡ false
-seek-no-place i ps h = seek-beyond i i 0 ps (omega arith) h

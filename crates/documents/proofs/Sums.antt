@@ -1,11 +1,11 @@
 -- The faults of a body call by call are those that the specification lists code by code, and so for a document: the sums are the same
 -- in another order. Sums of faults first, then bodies, then documents. Assumes nothing.
 use mathlib.Core.Path.{_≡_, refl, sym, ap, ap₂, _∙_}
-use mathlib.Core.Bool.{Bool, true, false, cond, not}
+use mathlib.Core.Bool.{Bool, true, false, cond}
 use mathlib.Core.List.{List, [], _∷_, _++_, map, flatMap, flatten, append-assoc, append-nil}
 use mathlib.Core.Option.{Option}
 use mathlib.Core.Option.{none as nothing}
-use Prim.Native.Nat.{ℕ, suc, _+_}
+use Prim.Native.Nat.{ℕ, suc}
 use lib.Dec.{eqb}
 use lib.ListN.{length}
 use Rattle.lexis.specs.Sizes.{maxInputs, maxOutputs, maxCalls, maxAssigned, maxUses}
@@ -230,9 +230,6 @@ module _ (inputs : List Token) where
 module _ (d : Document) where
   abbrev known : List Token
   known = allAssigned (d .calls)
-
-  abbrev no-one : Token → Bool
-  no-one t = not (isAmong known t)
 
   abbrev counts : List (List Fault)
   counts =

@@ -1,8 +1,8 @@
--- Where the names of a header stand: its parameters' before the arrow, its results' behind it up to the next header. Flat scans up to
--- the arrow and up to the word `fragment` find them. Relies on `Passes` (types and defaults hold no name) and `HeaderParses`.
+-- Where the names of a header stand: its parameters' before the arrow, its results' behind it up to the next header. A flat scan for
+-- the word `fragment` passes over them. Relies on `Passes` (types and defaults hold no name) and `HeaderParses`.
 use mathlib.Core.Path.{_≡_, refl, sym, ap, _∙_}
-use mathlib.Core.List.{List, [], _∷_, map}
-use Prim.Native.Nat.{ℕ, _-_}
+use mathlib.Core.List.{List, [], _∷_}
+use Prim.Native.Nat.{ℕ}
 use native.Mathlib.Omega.{arith}
 use borrow.Author.Tests.{eq-eqb, ne-eqb}
 use Rattle.lexis.specs.Lexer.{Token}
@@ -13,14 +13,13 @@ use Rattle.syntax.specs.Parser.Parse.{ok}
 use Rattle.syntax.specs.Parser.Row.{commas}
 use Rattle.syntax.proofs.Row.{Shrinks}
 use Rattle.syntax.proofs.Shrinks.{param-shrinks, result-shrinks}
-use Rattle.lists.specs.Names.{those}
-use Rattle.lists.specs.Lists.{isA, upto, Plain, ItemRun, stop, pass, item, endsHeader}
+use Rattle.lists.specs.Lists.{upto, Plain, ItemRun, stop, pass, item, endsHeader}
 use Rattle.lists.proofs.Passes.{Passes, plain-of, passes-trans, over-is, type-over, default-over}
 use Rattle.lists.proofs.Passes.Passes.{stop as no-more, pass as one-more}
 use Rattle.lists.proofs.HeaderParses.{Rowed, row-ok, param-ok, result-ok, header-ok}
 use Rattle.lists.proofs.HeaderParses.Rowed.{last, next}
 use Rattle.lists.specs.Scans.{fromSymbol}
-use Rattle.lists.proofs.HeaderScans.{upto-at, upto-over, from-at, from-over}
+use Rattle.lists.proofs.HeaderScans.{upto-at, from-at, from-over}
 
 -- ---- an item is its name and plain tokens
 
@@ -88,14 +87,6 @@ module _ {A : Type 0} (read : Reader A) (nameOf : A → Token) (small : Shrinks 
 
 -- ---- flat scans of a run
 
-name-in : (t : Token) (ts : List Token) → symOf t ≡ aName → those (isA aName) (t ∷ ts) ≡ t ∷ those (isA aName) ts
-unfolding those
-name-in t ts h = simp (eq-eqb (symOf t) aName h)
-
-pub name-out : (t : Token) (ts : List Token) → (symOf t ≡ aName → ⊥) → those (isA aName) (t ∷ ts) ≡ those (isA aName) ts
-unfolding those
-name-out t ts h = simp (ne-eqb (symOf t) aName h)
-
 -- a scan for s stops at these tokens
 pub record Stops (s : ℕ) (us : List Token) : Type 0 where
   pub before : upto s us ≡ []
@@ -114,16 +105,6 @@ module _ {A : Type 0} {read : Reader A} {nameOf : A → Token} (s : ℕ) (other 
   run-from stop = refl
   run-from (pass {t = t} {ts = ts} h r) = from-over s t ts (ne-eqb (symOf t) s (plain-not t h)) ∙ run-from r
   run-from (item {t = t} {ts = ts} h n d r) = from-over s t ts (ne-eqb (symOf t) s (λ z. other (sym z ∙ h))) ∙ run-from r
-
-  pub run-names : {ts us : List Token} {xs : List A} → ItemRun read nameOf ts xs us → Stops s us → those (isA aName) (upto s ts) ≡ map nameOf xs
-  unfolding those
-  run-names stop e = ap (those (isA aName)) (e .before)
-  run-names (pass {t = t} {ts = ts} h r) e =
-      ap (those (isA aName)) (upto-over s t ts (ne-eqb (symOf t) s (plain-not t h))) ∙ name-out t (upto s ts) (h .noName) ∙ run-names r e
-  run-names (item {t = t} {ts = ts} {x = x} {xs = xs} h n d r) e =
-      ap (those (isA aName)) (upto-over s t ts (ne-eqb (symOf t) s (λ z. other (sym z ∙ h)))) ∙ name-in t (upto s ts) h
-      ∙ ap (λ (w : Token). w ∷ those (isA aName) (upto s ts)) (sym n)
-      ∙ ap (λ (ws : List Token). nameOf x ∷ ws) (run-names r e)
 
 -- ---- a header
 
@@ -158,9 +139,6 @@ header-laid b ts {h} {us} e =
           pass (round-plain (x .second) (x .opens-again))
           (row-run (result b) (λ (r : Result). r .name) (result-shrinks b) (result-lays b) (h .results) (x .given) (x .the-results));
     }
-
-pub arrow-not : (t : Token) → Plain t → symOf t ≡ arrow → ⊥
-arrow-not t h = h .noArrow
 
 pub word-not : (t : Token) → Plain t → symOf t ≡ fragment → ⊥
 word-not t h = h .noWord

@@ -1,5 +1,5 @@
--- Flat scans over a table: the tokens up to and from a terminal, the names among tokens and their repeats, one token at a time.
--- The tokens between two places first, then `upto` and `fromSymbol`, then `those`, `isAmong`, `repeatsAfter` and `first` over `++`.
+-- Flat scans over a table: the tokens up to and from a terminal, repeats among tokens, one token at a time.
+-- The tokens between two places first, then `upto` and `fromSymbol`, then `repeatsAfter`, `map` and `first` over `++`.
 use mathlib.Core.Path.{_≡_, refl, sym, ap, _∙_}
 use mathlib.Core.Bool.{Bool, true, false, cond}
 use mathlib.Core.List.{List, [], _∷_, _++_, map, append-assoc, append-nil}
@@ -13,7 +13,7 @@ use Rattle.syntax.specs.Table.{tokenAt, tokensFrom, toks}
 use Rattle.syntax.specs.Inner.{lookahead}
 use Rattle.syntax.proofs.Table.{toks-none, toks-more}
 use Rattle.lists.specs.Fault.{fault, faults, starts, earlier, first}
-use Rattle.lists.specs.Names.{those, isAmong, repeatsAfter}
+use Rattle.lists.specs.Names.{isAmong, repeatsAfter}
 use Rattle.lists.specs.Lists.{isA, upto}
 use Rattle.lists.specs.Scans.{fromSymbol}
 use Rattle.lists.proofs.First.{first-append}
@@ -61,16 +61,6 @@ from-at s t ts h = simp h
 pub from-over : (s : ℕ) (t : Token) (ts : List Token) → isA s t ≡ false → fromSymbol s (t ∷ ts) ≡ fromSymbol s ts
 unfolding fromSymbol
 from-over s t ts h = simp h
-
--- what a scan stops at
-pub from-is : (s : ℕ) (ts : List Token) (t : Token) (us : List Token) → fromSymbol s ts ≡ t ∷ us → isA s t ≡ true
-unfolding fromSymbol
-from-is s [] t us h = let z : _≡_ {A = ℕ} 0 1 = cc in absurd (omega arith)
-from-is s (x ∷ ts) t us h = go (isA s x) refl h (from-is s ts t us)
-  where
-    go : (b : Bool) → isA s x ≡ b → cond b (x ∷ ts) (fromSymbol s ts) ≡ t ∷ us → (fromSymbol s ts ≡ t ∷ us → isA s t ≡ true) → isA s t ≡ true
-    go true p e r = let q : x ≡ t = cc in rw q at p
-    go false p e r = r e
 
 module _ (text table : List ℕ) (n at s : ℕ) where
   -- what is left of the scan at place i
@@ -122,16 +112,6 @@ module _ (text table : List ℕ) (n at s : ℕ) where
   }
 
 -- ---- names and their repeats
-
-pub those-append : (f : Token → Bool) (ts us : List Token) → those f (ts ++ us) ≡ those f ts ++ those f us
-unfolding those
-those-append f [] us = refl
-those-append f (t ∷ ts) us = go (f t) (those-append f ts us)
-  where
-    go : (b : Bool) → those f (ts ++ us) ≡ those f ts ++ those f us
-        → cond b (t ∷ those f (ts ++ us)) (those f (ts ++ us)) ≡ cond b (t ∷ those f ts) (those f ts) ++ those f us
-    go true e = ap (λ (x : List Token). t ∷ x) e
-    go false e = e
 
 pub repeats-append : (ss ts us : List Token) → repeatsAfter ss (ts ++ us) ≡ repeatsAfter ss ts ++ repeatsAfter (ss ++ ts) us
 unfolding repeatsAfter

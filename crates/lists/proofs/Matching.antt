@@ -26,17 +26,16 @@ use Rattle.syntax.specs.Table.{toks}
 use Rattle.syntax.specs.Inner.{lookahead}
 use Rattle.syntax.proofs.Table.{toks-rest}
 use Rattle.lists.specs.Reading.{readAt, fits, typesOf, resultType}
-use Rattle.lists.specs.declared.types.TypeAt.{TypeAt}
-use Rattle.lists.specs.Types.{kindsOf, pairsOf, typeCode, several, resultCode, OfType}
-use Rattle.lists.specs.Fitting.{stacked, Several, NoPair, Shaped, Columns, fitsEach}
+use Rattle.lists.specs.Types.{kindsOf, pairsOf, typeCode, several, resultCode}
+use Rattle.lists.specs.Fitting.{stacked, Several, Shaped, Columns, fitsEach}
 use Rattle.lists.specs.Fitting.{Fitted, isFit, isWhole, OfItem, BaseOf, OfValue, OfEach, OfLeft, OfWhole}
 use Rattle.lists.specs.Fitting.Several.{two-or-more}
 use Rattle.lists.proofs.Fits.{tuple-fits, each-few, each-more, flat-no}
 use Rattle.lists.proofs.Fits.Flat.{flat-tuple}
-use Rattle.lists.proofs.TypeTokens.{shape, base-of, read-of}
+use Rattle.lists.proofs.TypeTokens.{shape, base-of}
 use Rattle.lists.proofs.TypeCodes.{code-single}
 use Rattle.lists.proofs.Phrases.{value-is, type-is}
-use Rattle.lists.proofs.Answers.{Seen, seen, look, literal-look, behind, fits-some, round-no-pair, comma-no-pair, toks-lead}
+use Rattle.lists.proofs.Answers.{Seen, seen, look, literal-look, behind, fits-some, toks-lead}
 use Rattle.lists.proofs.Answers.Seen.{a-name-seen, a-literal-seen, an-array-seen, a-tuple-seen}
 
 clash : _≡_ {A = ℕ} 0 1 → ⊥
@@ -215,23 +214,3 @@ module _ (text table : List ℕ) (n j code : ℕ) where
   coded-one f (last h d) e = (shape (only-result text table n j h), e)
   coded-one f (next h d (last g q)) e = absurd (f e)
   coded-one f (next h d (next g q s)) e = absurd (f e)
-
--- the results at place j, the first of which has the type u, before the terminal o
-module _ (text table : List ℕ) (n j o : ℕ) (u : TypeAt) (read : OfType text table n (j + 2) u) (sees : o ≡ lookahead (toks text table n (u .end))) where
-  first-end : {b : ℕ} {us : List Token} {r : Result} → IsResult b (toks text table n j) r us → NoPair us → us ≡ toks text table n (u .end)
-  first-end h f = read-of text table n (j + 2) u read (only-result text table n j h) f .end
-
-  pub results-several : o ≡ comma → {b : ℕ} {us : List Token} {rs : List Result} → Separated (IsResult b) rightRound (toks text table n j) rs us
-      → Several (typesOf rs) × (resultType rs ≡ tupleOf (typesOf rs))
-  results-several f (last h d) = absurd (omega (arith, f, look (sym (first-end h (round-no-pair d))) d sees))
-  results-several f (next {a = r} h d s) = several-types r s
-
-  pub results-one : (o ≡ comma → ⊥) → {b : ℕ} {us : List Token} {rs : List Result} → Separated (IsResult b) rightRound (toks text table n j) rs us
-      → Shaped b (toks text table n (j + 2)) (resultType rs) (pairsOf (resultType rs))
-      × (u .kinds ≡ kindsOf (resultType rs)) × (u .pairs ≡ pairsOf (resultType rs))
-  unfolding resultType
-  results-one f (last h d) =
-      let t = only-result text table n j h in
-      let q = read-of text table n (j + 2) u read t (round-no-pair d) in
-      (shape t, q .kinds, q .pairs)
-  results-one f (next h d s) = absurd (f (look (sym (first-end h (comma-no-pair d))) d sees))

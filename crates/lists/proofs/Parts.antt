@@ -1,4 +1,4 @@
--- Parts of a table: the tokens from one place up to another. They split at any place between, grow at their end, and what stands first
+-- Parts of a table: the tokens from one place up to another. They split at any place between, and what stands first
 -- is the token at the first place. Then names and uses of parts. What `toks` is at the end and before it: `Table` of crate `syntax`.
 -- Assumes nothing.
 use mathlib.Core.Path.{_≡_, refl, sym, ap, ap₂, _∙_}
@@ -45,15 +45,6 @@ module _ (text table : List ℕ) where
       let p : n - i ≡ (j - i) + (n - j) = omega arith in
       let q : i + (j - i) ≡ j = omega arith in
       ap (λ (x : ℕ). tokensFrom text table i x) p ∙ from-split i (j - i) (n - j) ∙ ap (λ (x : ℕ). toks text table j i ++ tokensFrom text table x (n - j)) q
-
-  -- one token
-  pub toks-one : (i : ℕ) → toks text table (i + 1) i ≡ tokenAt text table i ∷ []
-  toks-one i =
-      toks-more text table (i + 1) i (omega arith) ∙ ap (λ (x : List Token). tokenAt text table i ∷ x) (toks-none text table (i + 1) (i + 1) (omega arith))
-
-  -- one token more
-  pub toks-last : (i j : ℕ) → i ≤ j → toks text table (j + 1) i ≡ toks text table j i ++ (tokenAt text table j ∷ [])
-  toks-last i j h = toks-split (j + 1) i j h (omega arith) ∙ ap (λ (x : List Token). toks text table j i ++ x) (toks-one j)
 
   module _ (n i : ℕ) where
     -- what stands first

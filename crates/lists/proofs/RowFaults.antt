@@ -100,10 +100,6 @@ module _ {A : Type 0} (j : Judge A) where
         first-append (itemFaults j qs ss x) (rowFaults j qs (ss ++ (j .nameOf x ∷ [])) xs)
         ∙ ap (λ (a : Option Fault). earlier a (first (rowFaults j qs (ss ++ (j .nameOf x ∷ [])) xs))) (sym (row-one ss x))
 
-    pub row-none : (ss : List Token) → first (rowFaults j qs ss []) ≡ nothing
-    unfolding rowFaults first
-    row-none ss = refl
-
     -- the faults of an item, after those met before
     pub item-parts : (ss : List Token) (x : A) (m : Option Fault)
         → earlier (earlier (earlier m (first (when (eqb (length ss) (j .size)) (fault 12 (j .place x)))))

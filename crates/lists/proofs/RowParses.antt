@@ -2,7 +2,7 @@
 -- Relies on `HeaderParses` and `Parts`.
 use mathlib.Core.Path.{_≡_, refl, sym, ap, _∙_}
 use mathlib.Core.List.{List, [], _∷_}
-use Prim.Native.Nat.{ℕ, suc, _+_, _-_, _<_, _≤_}
+use Prim.Native.Nat.{ℕ, suc, _+_, _<_, _≤_}
 use native.Mathlib.Omega.{arith}
 use lib.ListN.{length}
 use Rattle.lexis.specs.Lexer.{Token}
@@ -18,7 +18,7 @@ use Rattle.syntax.proofs.Shrinks.{type-shrinks, default-keeps}
 use Rattle.lists.specs.Headers.{Reads}
 use Rattle.lists.proofs.HeaderParses.{Rowed, row-ok, param-ok, result-ok}
 use Rattle.lists.proofs.HeaderParses.Rowed.{last, next}
-use Rattle.lists.proofs.Parts.{First, first-of}
+use Rattle.lists.proofs.Parts.{first-of}
 
 -- ---- how much is taken
 
@@ -65,9 +65,6 @@ module _ {A : Type 0} (item : Reader A) (small : Shrinks item) (text table : Lis
 
   -- it ends at place j
   module _ (j : ℕ) (ends : (x : A) (ws : List Token) → item (toks text table n i) ≡ ok x ws → ws ≡ toks text table n j) where
-    pub begins-at : {xs : List A} (b : Begins xs) → First text table n j (b .mark) (b .behind)
-    begins-at b = first-of text table n j (b .mark) (b .behind) (sym (ends (b .one) (b .mark ∷ b .behind) (b .read)))
-
     looks : {x : A} {c : Token} {ws : List Token} → item (toks text table n i) ≡ ok x (c ∷ ws) → lookahead (toks text table n j) ≡ symOf c
     looks {x} {c} {ws} e = ap lookahead (sym (ends x (c ∷ ws) e))
 

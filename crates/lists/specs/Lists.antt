@@ -6,12 +6,12 @@ use mathlib.Core.List.{List, [], _∷_, map, flatMap, flatten}
 use lib.Dec.{eqb}
 use lib.ListN.{length, getD}
 use lib.Seq.{sets}
-use Rattle.lexis.specs.Sizes.{maxBrackets, maxParameters, maxResults}
+use Rattle.lexis.specs.Sizes.{maxParameters, maxResults}
 use Rattle.lexis.specs.Words.{sameBytes}
 use Rattle.lexis.specs.Lexer.{Token}
 use Rattle.lexis.specs.Symbol.{symOf, aName, arrow, fragment}
 use Rattle.syntax.specs.Tree.{Header, Param, Result}
-use Rattle.syntax.specs.Parser.{Reader, param, header, operations}
+use Rattle.syntax.specs.Parser.{Reader, header, operations}
 use Rattle.syntax.specs.Parser.Parse.{ok}
 use Rattle.syntax.specs.Table.{tokenAt, toks}
 use Rattle.lists.specs.Code as Code
@@ -46,10 +46,6 @@ pub data ItemRun {A : Type 0} (read : Reader A) (nameOf : A → Token) : List To
   pass : {t : Token} {ts us : List Token} {xs : List A} → Plain t → ItemRun read nameOf ts xs us → ItemRun read nameOf (t ∷ ts) xs us
   item : {t : Token} {ts us ws : List Token} {x : A} {xs : List A}
       → symOf t ≡ aName → nameOf x ≡ t → read (t ∷ ts) ≡ ok x ws → ItemRun read nameOf ts xs us → ItemRun read nameOf (t ∷ ts) (x ∷ xs) us
-
--- those of parameters
-abbrev pub Params : List Token → List Param → List Token → Type 0
-Params ts ps us = ItemRun (param maxBrackets) (λ (p : Param). p .name) ts ps us
 
 -- nothing, or the next header
 abbrev pub endsHeader : List Token → Type 0

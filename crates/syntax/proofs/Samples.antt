@@ -1,4 +1,4 @@
--- A token for each terminal of the grammar, with which an unfinished text can be completed.
+-- Tokens of the grammar, by their terminals, with which an unfinished text can be completed.
 -- Assumes nothing.
 use mathlib.Core.Path.{_≡_, refl}
 use mathlib.Core.List.{[], _∷_}
@@ -7,8 +7,8 @@ use Prim.Native.String.{String}
 use Rattle.lexis.specs.Ascii.{ascii}
 use Rattle.lexis.specs.Words.{sameBytes}
 use Rattle.lexis.specs.Lexer.{Token}
-use Rattle.lexis.specs.Symbol.{symOf, symbolOf, terminals, symbolIn, keywordSymbol, arrow, aName, aNumber, aLiteral, version, graph, fragment, tensorWord}
-use Rattle.lexis.specs.Symbol.{extentWord, scalarWord, logicalWord, stringWord}
+use Rattle.lexis.specs.Symbol.{symOf, symbolOf, terminals, symbolIn, keywordSymbol, arrow, aName, aNumber, version, graph, fragment}
+use Rattle.lexis.specs.Symbol.{scalarWord}
 
 -- a token that is the terminal s
 pub record Sample (s : ℕ) : Type 0 where
@@ -32,10 +32,6 @@ pub number-token : Sample aNumber
 unfolding symOf symbolOf
 number-token = record { token = record { kind = 2; start = 0; bytes = ascii "1" }; is = refl }
 
-pub literal-token : Sample aLiteral
-unfolding symOf symbolOf
-literal-token = record { token = record { kind = 5; start = 0; bytes = ascii "true" }; is = refl }
-
 -- a keyword
 keyword : (w : String) {s : ℕ} → keywordSymbol (ascii w) ≡ s → Sample s
 unfolding symOf symbolOf
@@ -53,22 +49,6 @@ pub fragment-token : Sample fragment
 unfolding terminals symbolIn sameBytes
 fragment-token = keyword "fragment" refl
 
-pub tensor-token : Sample tensorWord
-unfolding terminals symbolIn sameBytes
-tensor-token = keyword "tensor" refl
-
-pub extent-token : Sample extentWord
-unfolding terminals symbolIn sameBytes
-extent-token = keyword "extent" refl
-
 pub scalar-token : Sample scalarWord
 unfolding terminals symbolIn sameBytes
 scalar-token = keyword "scalar" refl
-
-pub logical-token : Sample logicalWord
-unfolding terminals symbolIn sameBytes
-logical-token = keyword "logical" refl
-
-pub string-token : Sample stringWord
-unfolding terminals symbolIn sameBytes
-string-token = keyword "string" refl

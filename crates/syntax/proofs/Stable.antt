@@ -1,7 +1,6 @@
 -- What the parser gives depends on the tokens up to and including the first one after what it took, and on nothing behind that; and a
 -- higher bracket limit changes only faults of code 10. `Local` and `Limit` show the two halves. Assumes nothing.
 use mathlib.Core.Path.{_≡_, refl, sym, _∙_}
-use mathlib.Core.Logic.{_⊎_, inl, inr}
 use mathlib.Core.List.{List, [], _∷_, _++_, append-cancel-right}
 use Prim.Native.Nat.{ℕ, _≤_}
 use Rattle.lexis.specs.Lexer.{Token}
@@ -59,15 +58,6 @@ module _ {A : Type 0} {f : ℕ → Reader A} {b : ℕ} {ts us : List Token} wher
   -- a tree is the tree under every higher limit
   pub ok-stays : {a : A} → Stable f b ts (ok a us) → (b' : ℕ) → b ≤ b' → f b' ts ≡ ok a us
   ok-stays (went p e h) b' l = rw e (h b' us l (alike-self us))
-
-  pub fault-code : {c : ℕ} → Stable f b ts (bad c us) → (c ≡ 9) ⊎ (c ≡ 10)
-  fault-code (nine p e h) = inl refl
-  fault-code (ten p e h) = inr refl
-
-  -- the tokens before a fault
-  pub fault-split : {c : ℕ} → Stable f b ts (bad c us) → (p : List Token) × (ts ≡ p ++ us)
-  fault-split (nine p e h) = (p, e)
-  fault-split (ten p e h) = (p, e)
 
   module _ (p : List Token) (e : ts ≡ p ++ us) where
     -- with these and the token at the fault, or the end, it is the same fault
