@@ -132,5 +132,15 @@ cases =
     ∷ []
 
 pub right : map (λ (c : Case). c .gives) cases ≡ map (λ (c : Case). c .is) cases
-unfolding flatten flatMap classOf spanLen gapFrom sameBytes words kindIn fracLen signLen isE expLen partsOf sticks valueFrom writtenOf minusOf strip reducedOf isNear isSmall inRange numberLexeme wordLexeme stringLexeme takesEqual isPair isArrow markLexeme lexeme admit lexFrom terminals symbolIn symbolOf symOf P.expect P.follow P.rowF P.row P.valueStep P.arrayItems P.tupleItems P.bracketed P.value P.typeName P.dims P.tupleTypes P.baseStep P.type P.default P.param P.result P.header P.operations P.argument P.left P.call P.document R.readAt R.readAll R.readEach R.fits R.allTensor R.allTensors R.typesOf R.resultType B.leading B.byName B.slotsFrom operationOf Plan.valueFor Plan.valuesFor Plan.planCall Plan.planCalls Plan.planOf F.before F.first N.those N.isAmong N.repeatsAfter N.namesIn N.namesOf N.used N.allAssigned N.allUsed L.listCounts L.listRepeats L.badDefaults L.listFaults B.labels B.taken B.misplacedFrom B.misnamed B.misfits B.lacked W.again W.unwiredAfter W.misfedBy W.misfed W.unmade D.badVersion D.documentCounts D.graphRepeats D.undeclared D.argumentFaults D.unmatched D.documentFaults listStages A.documentStages A.bothStages A.checked A.checkAnswer S.decimalBy S.decimal S.spellExponent S.spellNumber S.holdsSingle S.quoteFor S.spellString Pieces.text Layout.pieces Layout.items Layout.moreItems Layout.leftPieces Layout.moreNamesPieces Layout.namesPieces Layout.moreArgumentsPieces Layout.argumentsPieces Layout.callPieces Layout.callsPieces Layout.documentPieces C.layoutOf C.writingStages C.textStages C.written cases tokensOf checks outcome lexes reduces fitsParsed suits bytesOf writes
+unfolding flatten flatMap classOf spanLen gapFrom sameBytes words kindIn fracLen signLen isE expLen partsOf sticks valueFrom writtenOf minusOf strip
+    reducedOf isNear isSmall inRange numberLexeme wordLexeme stringLexeme takesEqual isPair isArrow markLexeme lexeme admit lexFrom terminals symbolIn
+    symbolOf symOf P.expect P.follow P.rowF P.row P.valueStep P.arrayItems P.tupleItems P.bracketed P.value P.typeName P.dims P.tupleTypes P.baseStep P.type
+    P.default P.param P.result P.header P.operations P.argument P.left P.call P.document R.readAt R.readAll R.readEach R.fits R.allTensor R.allTensors
+    R.typesOf R.resultType B.leading B.byName B.slotsFrom operationOf Plan.valueFor Plan.valuesFor Plan.planCall Plan.planCalls Plan.planOf F.before F.first
+    N.those N.isAmong N.repeatsAfter N.namesIn N.namesOf N.used N.allAssigned N.allUsed L.listCounts L.listRepeats L.badDefaults L.listFaults B.labels
+    B.taken B.misplacedFrom B.misnamed B.misfits B.lacked W.again W.unwiredAfter W.misfedBy W.misfed W.unmade D.badVersion D.documentCounts D.graphRepeats
+    D.undeclared D.argumentFaults D.unmatched D.documentFaults listStages A.documentStages A.bothStages A.checked A.checkAnswer S.decimalBy S.decimal
+    S.spellExponent S.spellNumber S.holdsSingle S.quoteFor S.spellString Pieces.text Layout.pieces Layout.items Layout.moreItems Layout.leftPieces
+    Layout.moreNamesPieces Layout.namesPieces Layout.moreArgumentsPieces Layout.argumentsPieces Layout.callPieces Layout.callsPieces Layout.documentPieces
+    C.layoutOf C.writingStages C.textStages C.written cases tokensOf checks outcome lexes reduces fitsParsed suits bytesOf writes
 right = refl

@@ -126,7 +126,8 @@ fn call_at(
         × (length (now (records .exit)) ≡ length (now (records .entry))) ⌝ }
     ensures { λ r. ⌜ ((hs : List Header) (ins outs : List Token) (ds : List Call) (c : Call) (us : List Token) →
         Directs (now (ltext .entry)) (now (ltable .entry)) (now (lindex .entry)) (now (words .entry)) ln hs →
-        call maxBrackets (toks (now (dtext .entry)) (now (dtable .entry)) dn (walk .at)) ≡ ok c us → Walked (now (dtext .entry)) (now (dtable .entry)) (now (index .entry)) (now (records .entry)) hs ins outs ds walk →
+        call maxBrackets (toks (now (dtext .entry)) (now (dtable .entry)) dn (walk .at)) ≡ ok c us →
+        Walked (now (dtext .entry)) (now (dtable .entry)) (now (index .entry)) (now (records .entry)) hs ins outs ds walk →
         Stepped (now (dtext .entry)) (now (dtable .entry)) dn (now (index .exit)) (now (records .exit)) hs ins outs ds c us walk r) ⌝ }
 {
     let at = walk.at;
@@ -203,7 +204,8 @@ pub fn body(
     ensures { λ r. ⌜ ((hs : List Header) (ins outs : List Token) (cs : List Call) →
         Directs (now (ltext .entry)) (now (ltable .entry)) (now (lindex .entry)) (now (words .entry)) ln hs →
         Calls maxBrackets (toks (now (dtext .entry)) (now (dtable .entry)) dn (graph .body)) cs (toks (now (dtext .entry)) (now (dtable .entry)) dn (graph .end)) →
-        Naming (now (dtext .entry)) (now (dtable .entry)) (now (index .entry)) (graph .body) (headed ins outs) [] → Body (now (dtext .entry)) (now (dtable .entry)) (now (index .exit)) (now (records .exit)) hs ins outs cs r) ⌝ }
+        Naming (now (dtext .entry)) (now (dtable .entry)) (now (index .entry)) (graph .body) (headed ins outs) [] →
+        Body (now (dtext .entry)) (now (dtable .entry)) (now (index .exit)) (now (records .exit)) hs ins outs cs r) ⌝ }
 {
     let mut walk = Walk {
         best: Best::none(),

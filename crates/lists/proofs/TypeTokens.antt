@@ -108,7 +108,8 @@ word-kinds is-logical = refl
 word-kinds is-string = refl
 
 -- any other terminal takes no leaf
-pub no-kinds : (s : ℕ) → (s ≡ tensorWord → ⊥) → (s ≡ extentWord → ⊥) → (s ≡ scalarWord → ⊥) → (s ≡ logicalWord → ⊥) → (s ≡ stringWord → ⊥) → 0 ≡ wordKinds s
+pub no-kinds : (s : ℕ) → (s ≡ tensorWord → ⊥) → (s ≡ extentWord → ⊥) → (s ≡ scalarWord → ⊥) → (s ≡ logicalWord → ⊥) → (s ≡ stringWord → ⊥)
+    → 0 ≡ wordKinds s
 unfolding wordKinds
 no-kinds s a b c d e = simp (ne-eqb s tensorWord a, ne-eqb s extentWord b, ne-eqb s scalarWord c, ne-eqb s logicalWord d, ne-eqb s stringWord e)
 

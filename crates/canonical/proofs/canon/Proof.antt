@@ -80,21 +80,14 @@ same-length-3 c = search needs
 
 returns-4 : tie.Need-returns-4
 returns-4 c =
-    let s = c .before .before .before .before .before .before .before .before .before .before .before .before .before .before .before .before .before .before .before .before .before .before .before .before .before .before .before .before .before in
-    let e = c .before .before .before .before .before .before .before .before .before .before .before .before .before .before .text-stages .ensures in
+    let d = c .before .before .before .before .before .before .before .before .before .before .before .before .before .before in
+    let g = d .before .before .before .before in
+    let s = g .before .before .before .before .before .before .before .before .before .before .before in
+    let e = d .text-stages .ensures in
     ended (s .args .list .now) (s .args .doc .now) (s .args .work1 .now) (s .args .work2 .now) (s .args .out .now)
-    (sym
-    (c .before .before .before .before .before .before .before .before .before .before .before .before .before .before .before .before .before .before .before .before .before .before .before .rooms-serve .ensures)
-    ∙ not-false _
-    (c .before .before .before .before .before .before .before .before .before .before .before .before .before .before .before .before .before .before .before .before .before .before .if1 .left))
-    (sym
-    (c .before .before .before .before .before .before .before .before .before .before .before .before .before .before .before .before .before .before .before .before .before .text-fits .ensures)
-    ∙ not-false _
-    (c .before .before .before .before .before .before .before .before .before .before .before .before .before .before .before .before .before .before .before .before .if2 .left))
-    (sym
-    (c .before .before .before .before .before .before .before .before .before .before .before .before .before .before .before .before .before .before .before .text-fits2 .ensures)
-    ∙ not-false _
-    (c .before .before .before .before .before .before .before .before .before .before .before .before .before .before .before .before .before .before .if3 .left))
+    (sym (g .before .before .before .before .before .rooms-serve .ensures) ∙ not-false _ (g .before .before .before .before .if1 .left))
+    (sym (g .before .before .before .text-fits .ensures) ∙ not-false _ (g .before .before .if2 .left))
+    (sym (g .before .text-fits2 .ensures) ∙ not-false _ (g .if3 .left))
     (e .0) (c .before .before .before .before .before .before .clear .ensures) (e .1 .0) (c .before .before .clear2 .ensures) (e .1 .1)
 
 pub canon-spec : {M : Type 1} → statement M

@@ -79,9 +79,10 @@ same-length-4 c = search needs
 
 returns-4 : tie.Need-returns-4
 returns-4 c =
-    let s = c .before .before .before .before .before .before .before .before .before .before .before .before .before .before .before .before .before .before .before .before .before .before .before .before .before .before .before .before .before .before .before .before .before in
-    let g = c .before .before .before .before .before .before .before .before .before .before .before .before .before .before .before .before .before .before .before .before .before in
-    let e = c .before .before .before .before .before .before .before .before .before .before .before .before .before .before .before .before .both-answer .ensures in
+    let d = c .before .before .before .before .before .before .before .before .before .before .before .before .before .before .before .before in
+    let g = d .before .before .before .before .before in
+    let s = g .before .before .before .before .before .before .before .before .before .before .before .before in
+    let e = d .both-answer .ensures in
     ended (s .args .list .now) (s .args .doc .now) (s .args .work1 .now) (s .args .work2 .now) (s .args .calls .now) (s .args .wires .now)
     (sym (g .before .before .before .before .before .rooms-serve .ensures) ∙ not-false _ (g .before .before .before .before .if1 .left))
     (sym (g .before .before .before .text-fits .ensures) ∙ not-false _ (g .before .before .if2 .left))
