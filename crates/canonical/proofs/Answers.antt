@@ -18,7 +18,7 @@ use Rattle.lexis.specs.Answer.{answer, records, answerOf, counted, tokensAnswer
 use Rattle.lexis.specs.declared.Answer.{Answer}
 use Rattle.lexis.proofs.Theorems.{coded}
 use Rattle.syntax.specs.Tree.{Header}
-use Rattle.lists.specs.Answer.{Stage, pass, stop, guarded, stageAnswer, listStages, declarationsAnswer, workAfter}
+use Rattle.lists.specs.Answer.{Stage, pass, stop, stageAnswer, listStages, declarationsAnswer, workAfter}
 use Rattle.lists.specs.Accepted.{AcceptedList}
 use Rattle.lists.proofs.Theorems.{declarations-stages, work-zero, work-kept}
 use Rattle.documents.specs.Answer.{bothStages, CheckRoom, checkServes, checkAnswer}

@@ -1,156 +1,103 @@
--- Where the value of a parameter stands. In order: the first item of a row; the places of arguments, stored one at a time; an argument that is for the
--- parameter or not; the search among the arguments at these places; the default; the two ways in which a parameter has a value.
-use mathlib.Core.Path.{_≡_, refl, sym, ap, _∙_}
-use mathlib.Core.Bool.{Bool, true, false, cond, not, true≢false}
-use mathlib.Core.List.{List, [], _∷_, _++_, append-assoc}
+-- Where the value of each parameter stands. In order: what an argument is for; the slots after one argument more; the walk over the arguments of a call; the
+-- two ways in which a parameter has a value.
+use mathlib.Core.Path.{_≡_, refl, sym, ap, subst, _∙_}
+use mathlib.Core.Bool.{Bool, true, false, cond, _&&_, and-false}
+use mathlib.Core.List.{List, [], _∷_}
 use mathlib.Core.Option.{Option, some}
 use mathlib.Core.Option.{none as nothing}
-use Prim.Native.Nat.{ℕ, suc, _+_, _≤_, _<_}
+use Prim.Native.Nat.{ℕ, zero, suc, _+_, _<_, _≤_}
 use native.Mathlib.Omega.{arith}
 use native.Mathlib.Numerals.{add-one}
-use borrow.Author.Tests.{eq-eqb, ne-eqb}
-use lib.Dec.{eqb}
-use lib.ListN.{length, take, drop, set, getD, drop-of-length-le}
-use lib.Seq.{take-suc-set, drop-cons}
+use borrow.Author.Tests.{eq-eqb, ne-eqb, eqb-true, eqb-false, lt-ltb, leb-true, leb-false}
+use lib.Dec.{eqb, leb, ltb}
+use lib.ListN.{length, getD, set, replicate}
+use lib.Seq.{getD-set-same, getD-set-other}
 use Rattle.lexis.specs.Sizes.{maxBrackets}
 use Rattle.lexis.specs.Words.{sameBytes}
 use Rattle.lexis.specs.Lexer.{Token}
-use Rattle.syntax.specs.declared.Parsed.{Parsed}
-use Rattle.syntax.specs.declared.Parsed.the-variants.{Done}
-use Rattle.lexis.specs.Symbol.{equal, rightRound}
+use Rattle.lexis.specs.Symbol.{comma, rightRound}
 use Rattle.syntax.specs.Tree.{Value, Param, Arg}
 use Rattle.syntax.specs.Tree.Arg.{positional, named}
-use Rattle.syntax.specs.Grammar.{literals, both}
-use Rattle.syntax.specs.Parser.{Reader, mapped, begins, rest, row, plain, commas, value, type, default, param, argument}
+use Rattle.syntax.specs.Grammar.{both}
+use Rattle.syntax.specs.Parser.{rest, row, plain, commas, value, argument}
 use Rattle.syntax.specs.Parser.Parse.{ok}
-use Rattle.syntax.specs.Table.{tokenAt, toks, parsed}
+use Rattle.syntax.specs.Table.{tokenAt, toks}
 use Rattle.syntax.specs.Inner.{lookahead, isLabel}
-use Rattle.syntax.proofs.Tails.{type-tails}
-use Rattle.syntax.proofs.Table.{toks-none, toks-rest}
-use Rattle.syntax.proofs.Row.{Shrinks, left-ok}
+use Rattle.syntax.proofs.Table.{toks-rest}
 use Rattle.syntax.proofs.Shrinks.{argument-shrinks}
-use Rattle.lists.specs.Reading.{Val, bind, isSome, readAt}
-use Rattle.documents.specs.declared.parameter.Next.the-variants.{Item, End}
+use Rattle.lists.specs.Reading.{Val, bind, readAt}
+use Rattle.documents.specs.declared.operation.Operation.{Operation}
 use Rattle.documents.specs.Binding.{orElse}
-use Rattle.documents.specs.Arguments.{GoesOn}
-use Rattle.documents.specs.Arguments.GoesOn.{more, last}
-use Rattle.documents.proofs.RowParses.{mapped-ok, Rowed, row-ok, param-ok}
-use Rattle.documents.proofs.RowParses.Rowed.{next}
-use Rattle.documents.proofs.RowParses.Rowed.{last as row-last}
-use Rattle.documents.proofs.Items.{left-at, clash, param-name, param-type, required-is}
-use Rattle.documents.proofs.ArgumentCalls.{value-starts, with-label, without-label}
+use Rattle.documents.specs.Tallies.{Declares, Nth, NumberOf, EndsAt}
+use Rattle.documents.specs.Tallies.Nth.{nth-first, after}
+use Rattle.documents.proofs.Sought.{Only, alike, none-nth, only-nth}
+use Rattle.documents.proofs.Sought.Only.{here, there}
+use Rattle.documents.proofs.DirectoryEntries.{nth-below, spelt-as, number-of}
+use Rattle.documents.proofs.RowParses.{Rowed, row-ok}
+use Rattle.documents.proofs.RowParses.Rowed.{next, last}
+use Rattle.documents.proofs.Items.{clash, token-there}
+use Rattle.documents.proofs.ArgumentCalls.{with-label, without-label}
 use Rattle.canonical.specs.Plan.{valueFor}
-use Rattle.canonical.specs.declared.argument.Bound.{Bound}
-use Rattle.canonical.specs.declared.argument.Bound.the-variants.{At, Missing}
-use Rattle.canonical.specs.Writing.{argumentFor, Finds, Starts, no-start, a-start}
-use Rattle.canonical.specs.Writing.Finds.{there, nowhere}
+use Rattle.canonical.specs.declared.argument.Walk.{Walk}
+use Rattle.canonical.specs.declared.argument.Aim.{Aim}
+use Rattle.canonical.specs.Writing.{argumentFor, ValueAt, Slotted, slotSet, AimsAt, Aims, BindsAll}
+use Rattle.canonical.specs.Writing.ValueAt.{no-value, a-value}
 
--- ---- rows
+-- ---- what an argument is for
 
--- a row has a first item
-pub record First {A : Type 0} (item : Reader A) (ts : List Token) (xs : List A) : Type 0 where
-  pub one : A
-  pub others : List A
-  pub after : List Token
-  pub whole : xs ≡ one ∷ others
-  pub reads : item ts ≡ ok one after
+-- the only parameter of a name, and any other
+only-here : {t : Token} {j : ℕ} {p q : Param} {ps : List Param} → Only t j p ps → Nth j q ps → alike q t ≡ true
+only-here (here h n) nth-first = h
+only-here (there h o) (after m) = only-here o m
 
-pub row-first : {A : Type 0} {item : Reader A} → Shrinks item → (ts : List Token) {xs : List A} {ws : List Token}
-    → row plain (commas rightRound) item ts ≡ ok xs ws → First item ts xs
-row-first {A} {item} small ts {xs} {ws} h = go (row-ok rightRound item small ts h)
+only-else : {t : Token} {j k : ℕ} {p q : Param} {ps : List Param} → Only t j p ps → Nth k q ps → (j ≡ k → ⊥) → alike q t ≡ false
+only-else (here h n) nth-first w = absurd (w refl)
+only-else (here h n) (after m) w = none-nth n m
+only-else (there h o) nth-first w = h
+only-else (there h o) (after m) w = only-else o m (λ e. w (ap suc e))
+
+-- a label is the name of the parameter of its number, and of no other
+label-for : {text table words : List ℕ} {n : ℕ} {o : Operation} {ps : List Param} → Declares text table words n o ps → (t : Token) {r : ℕ}
+    → NumberOf text table words o (t .bytes) r → (k : ℕ) (p : Param) → Nth k p ps → sameBytes (p .name .bytes) (t .bytes) ≡ eqb r k
+label-for {o = o} {ps = ps} d t {r} f k p m = go (leb (o .count) r) refl
   where
-    go : {ys : List A} → Rowed rightRound item ts ws ys → First item ts ys
-    go (row-last {a = x} {c = t} e c) = record { one = x; others = []; after = t ∷ ws; whole = refl; reads = e }
-    go (next {a = x} {c = t} {us = us} {xs = ys} e c m) = record { one = x; others = ys; after = t ∷ us; whole = refl; reads = e }
+    known : r < o .count → (b : Bool) → eqb r k ≡ b → sameBytes (p .name .bytes) (t .bytes) ≡ b
+    known l true e =
+        let i = number-of d r l in
+        let only = only-nth {t = t} (d .apart) (spelt-as d (t .bytes) (i .nth) ∙ f .spelt l) (i .nth) in
+        only-here only (subst (λ (j : ℕ). Nth j p ps) (sym (eqb-true r k e)) m)
+    known l false e =
+        let i = number-of d r l in
+        only-else (only-nth {t = t} (d .apart) (spelt-as d (t .bytes) (i .nth) ∙ f .spelt l) (i .nth)) m (eqb-false r k e)
 
--- ---- the places of arguments
+    go : (b : Bool) → leb (o .count) r ≡ b → sameBytes (p .name .bytes) (t .bytes) ≡ eqb r k
+    go true e =
+        let l = leb-true (o .count) r e in
+        let i : k < o .count = omega (arith, nth-below m, d .count) in
+        spelt-as d (t .bytes) m ∙ f .none l k i ∙ sym (ne-eqb r k (λ (z : r ≡ k). omega arith))
+    go false e = known (leb-false (o .count) r e) (eqb r k) refl
 
-module _ (text table : List ℕ) (n args : ℕ) where
-  abbrev Row : ℕ → List Arg → List Token → Type 0
-  Row i xs us = row plain (commas rightRound) (argument maxBrackets) (toks text table n i) ≡ ok xs us
+module _ (text table : List ℕ) (n i : ℕ) {x : Arg} {us : List Token} (h : argument maxBrackets (toks text table n i) ≡ ok x us) where
+  pub aims-named : {ltext ltable words : List ℕ} {ln : ℕ} {o : Operation} {ps : List Param} → Declares ltext ltable words ln o ps
+      → isLabel (toks text table n i) ≡ true → (j r : ℕ) → NumberOf ltext ltable words o (tokenAt text table i .bytes) r
+      → AimsAt text table n ps j x us (record { number = r; value = i + 2 })
+  unfolding argumentFor
+  aims-named d l j r f =
+      let w = with-label text table n i maxBrackets h l in
+      record {
+        tree = w .tree;
+        reads = w .reads;
+        binds = λ k p m. ap (λ (y : Arg). argumentFor j k p (y ∷ [])) (w .is)
+            ∙ ap (λ (b : Bool). cond b (some (w .tree)) nothing) (label-for d (tokenAt text table i) f k p m);
+      }
 
-  -- those left are read from place i on; with their places behind the first j, all have theirs
-  pub record Placed (xs : List Arg) (us : List Token) (starts : List ℕ) (i j : ℕ) : Type 0 where
-    pub left : List Arg
-    pub reads : Row i left us
-    pub join : (is : List ℕ) → Starts text table n is left → Starts text table n (take j starts ++ is) xs
+  pub aims-placed : (ps : List Param) → isLabel (toks text table n i) ≡ false → (j : ℕ) → AimsAt text table n ps j x us (record { number = j; value = i })
+  unfolding argumentFor
+  aims-placed ps l j =
+      let w = without-label text table n i maxBrackets h l in
+      record { tree = w .tree; reads = w .reads; binds = λ k p m. ap (λ (y : Arg). argumentFor j k p (y ∷ [])) (w .is) }
 
-  abbrev pub Places : List ℕ → ℕ → ℕ → Type 0
-  Places starts i j = (xs : List Arg) (us : List Token) → Row args xs us → Placed xs us starts i j
-
-  abbrev pub AllPlaces : List ℕ → Type 0
-  AllPlaces is = (xs : List Arg) (us : List Token) → Row args xs us → Starts text table n is xs
-
-  pub places-none : (starts : List ℕ) → Places starts args 0
-  places-none starts xs us h = record { left = xs; reads = h; join = λ is s. s }
-
-  module _ (starts : List ℕ) (i j : ℕ) (inside : j < length starts) (walk : Places starts i j) where
-    stored-place : take (j + 1) (set starts j i) ≡ take j starts ++ (i ∷ [])
-    stored-place = ap (λ (m : ℕ). take m (set starts j i)) (add-one j) ∙ take-suc-set starts j i inside
-
-    pub places-last : ((ys : List Arg) (us : List Token) → Row i ys us → GoesOn (argument maxBrackets) text table n i ys us End)
-        → AllPlaces (take (j + 1) (set starts j i))
-    places-last ends xs us h = let l = walk xs us h in rw stored-place (l .join (i ∷ []) (go (ends (l .left) us (l .reads))))
-      where
-        go : {ys : List Arg} → GoesOn (argument maxBrackets) text table n i ys us End → Starts text table n (i ∷ []) ys
-        go (last e a) = rw e (a-start a no-start)
-
-    pub places-on : {m : ℕ} → ((ys : List Arg) (us : List Token) → Row i ys us → GoesOn (argument maxBrackets) text table n i ys us (Item m))
-        → Places (set starts j i) m (j + 1)
-    places-on {m} goes xs us h = let l = walk xs us h in go (l .join) (goes (l .left) us (l .reads))
-      where
-        go : {ys : List Arg} → ((is : List ℕ) → Starts text table n is ys → Starts text table n (take j starts ++ is) xs)
-            → GoesOn (argument maxBrackets) text table n i ys us (Item m) → Placed xs us (set starts j i) m (j + 1)
-        go join (more {ys = zs} e a t) = record {
-          left = zs;
-          reads = t;
-          join = λ is s. rw (stored-place, append-assoc (take j starts) (i ∷ []) is) (join (i ∷ is) (rw e (a-start a s)));
-        }
-
-  -- a row does not end before its first item
-  pub places-past : (starts : List ℕ) (i j : ℕ) → n ≤ i → Places starts i j → AllPlaces (take j starts)
-  places-past starts i j over walk xs us h =
-      let l = walk xs us h in
-      let f = row-first (argument-shrinks maxBrackets) (toks text table n i) (l .reads) in
-      let less = left-ok (rw (f .reads) at (argument-shrinks maxBrackets (toks text table n i))) in
-      absurd (omega (arith, less, ap length (toks-none text table n i over)))
-
--- ---- one argument
-
-module _ (dtext dtable : List ℕ) (dn i j k : ℕ) (ltext ltable : List ℕ) (ln p : ℕ) {x : Arg} {us : List Token} {q : Param} {ws : List Token}
-    (h : argument maxBrackets (toks dtext dtable dn i) ≡ ok x us) (g : param maxBrackets (toks ltext ltable ln p) ≡ ok q ws) where
-  abbrev Here : Bound → Type 0
-  Here r = Finds dtext dtable dn (argumentFor j k q (x ∷ [])) r
-
-  module _ (label : isLabel (toks dtext dtable dn i) ≡ true) {b : Bool}
-      (test : b ≡ sameBytes (tokenAt ltext ltable p .bytes) (tokenAt dtext dtable i .bytes)) where
-    alike : sameBytes (q .name .bytes) (tokenAt dtext dtable i .bytes) ≡ b
-    alike = ap (λ (t : Token). sameBytes (t .bytes) (tokenAt dtext dtable i .bytes)) (param-name ltext ltable ln p g) ∙ sym test
-
-    pub named-here : b ≡ true → Here (At (i + 2))
-    unfolding argumentFor
-    named-here e =
-        let w = with-label dtext dtable dn i maxBrackets h label in
-        let s = value-starts dtext dtable dn (i + 2) maxBrackets (w .reads) in
-        rw (w .is, alike, e) (there {i = i + 2} (omega (arith, s .within)) (w .reads))
-
-    pub named-else : b ≡ false → Here Missing
-    unfolding argumentFor
-    named-else e = let w = with-label dtext dtable dn i maxBrackets h label in rw (w .is, alike, e) nowhere
-
-  module _ (bare : isLabel (toks dtext dtable dn i) ≡ false) where
-    pub placed-here : j ≡ k → Here (At i)
-    unfolding argumentFor
-    placed-here e =
-        let w = without-label dtext dtable dn i maxBrackets h bare in
-        let s = value-starts dtext dtable dn i maxBrackets (w .reads) in
-        rw (w .is, eq-eqb j k e) (there {i = i} (omega (arith, s .within)) (w .reads))
-
-    pub placed-else : (j ≡ k → ⊥) → Here Missing
-    unfolding argumentFor
-    placed-else e = let w = without-label dtext dtable dn i maxBrackets h bare in rw (w .is, ne-eqb j k e) nowhere
-
--- ---- one argument after the other
+-- ---- the slots after one argument more
 
 if-else : (b : Bool) (v : Value) (o : Option Value) → cond b (some v) o ≡ orElse (cond b (some v) nothing) o
 if-else true v o = refl
@@ -163,126 +110,186 @@ unfolding argumentFor
 argument-first j k q (positional v) xs = if-else (eqb j k) v (argumentFor (suc j) k q xs)
 argument-first j k q (named t v) xs = if-else (sameBytes (q .name .bytes) (t .bytes)) v (argumentFor (suc j) k q xs)
 
--- the value that was found
-pub record Found (text table : List ℕ) (n : ℕ) (o : Option Value) (i : ℕ) : Type 0 where
+or-none : (o : Option Value) → orElse o nothing ≡ o
+or-none nothing = refl
+or-none (some v) = refl
+
+-- slots that keep what they hold
+slot-other : (slots : List ℕ) (count p v k : ℕ) → (p ≡ k → ⊥) → getD (slotSet slots count p v) k 0 ≡ getD slots k 0
+unfolding slotSet
+slot-other slots count p v k w = go (ltb p count && eqb (getD slots p 0) 0)
+  where
+    go : (b : Bool) → getD (cond b (set slots p v) slots) k 0 ≡ getD slots k 0
+    go true = getD-set-other slots p k v 0 (λ e. w (sym e))
+    go false = refl
+
+slot-kept : (slots : List ℕ) (count p v : ℕ) → (getD slots p 0 ≡ 0 → ⊥) → slotSet slots count p v ≡ slots
+unfolding slotSet
+slot-kept slots count p v w = simp (ne-eqb (getD slots p 0) 0 w, and-false (ltb p count))
+
+slot-new : (slots : List ℕ) (count p v : ℕ) → p < count → count ≤ length slots → getD slots p 0 ≡ 0 → getD (slotSet slots count p v) p 0 ≡ v
+unfolding slotSet
+slot-new slots count p v l m e = rw (lt-ltb p count l, eq-eqb (getD slots p 0) 0 e) (getD-set-same slots p v 0 (omega arith))
+
+-- slots that hold nothing
+pub empty-slots : (n k : ℕ) → _≡_ {A = ℕ} (getD (replicate n 0) k 0) 0
+empty-slots zero k = refl
+empty-slots (suc n) zero = refl
+empty-slots (suc n) (suc k) = empty-slots n k
+
+-- no value stands at place 0, and one at any other that is held
+pub value-none : {text table : List ℕ} {n i : ℕ} {o : Option Value} → ValueAt text table n i o → i ≡ 0 → o ≡ nothing
+value-none no-value e = refl
+value-none (a-value l h) e = absurd (omega arith)
+
+pub record Found (text table : List ℕ) (n i : ℕ) (o : Option Value) : Type 0 where
   pub tree : Value
   pub is : o ≡ some tree
-  pub within : i ≤ n
   pub rest : List Token
   pub reads : value both maxBrackets (toks text table n i) ≡ ok tree rest
 
-pub found-at : {text table : List ℕ} {n : ℕ} {o : Option Value} {r : Bound} {i : ℕ} → Finds text table n o r → r ≡ At i → Found text table n o i
-found-at {text} {table} {n} {i = i} (there {v = v} {i = j} {us = us} l h) e =
-    let q : j ≡ i = cc in
-    record { tree = v; is = refl; within = omega (arith, q, l); rest = us; reads = ap (λ (m : ℕ). value both maxBrackets (toks text table n m)) (sym q) ∙ h }
-found-at nowhere e = clash cc
+pub value-some : {text table : List ℕ} {n i : ℕ} {o : Option Value} → ValueAt text table n i o → (i ≡ 0 → ⊥) → Found text table n i o
+value-some no-value w = absurd (w refl)
+value-some (a-value {v = v} {us = us} l h) w = record { tree = v; is = refl; rest = us; reads = h }
 
-pub found-none : {text table : List ℕ} {n : ℕ} {o : Option Value} {r : Bound} → Finds text table n o r → r ≡ Missing → o ≡ nothing
-found-none (there l h) e = clash cc
-found-none nowhere e = refl
+module _ (text table : List ℕ) (n : ℕ) (xs : List Arg) where
+  -- the slot of parameter p, number k, holds what the arguments passed have for it; those left are ys, the first of which is number j
+  pub record Filled (slots : List ℕ) (j : ℕ) (ys : List Arg) (k : ℕ) (p : Param) : Type 0 where
+    pub held : Option Value
+    pub at : ValueAt text table n (getD slots k 0) held
+    pub same : argumentFor 0 k p xs ≡ orElse held (argumentFor j k p ys)
 
--- what was found stays, whatever else there is
-found-first : {text table : List ℕ} {n : ℕ} {o : Option Value} {r : Bound} → Finds text table n o r → (r ≡ Missing → ⊥) → (p : Option Value)
-    → Finds text table n (orElse o p) r
-found-first (there l h) w p = there l h
-found-first nowhere w p = absurd (w refl)
+  module _ {ps : List Param} {slots : List ℕ} {j : ℕ} {x : Arg} {ys : List Arg} {us : List Token} {a : Aim} (aims : AimsAt text table n ps j x us a)
+      (count : ℕ) (room : count ≤ length slots) (all : length ps ≤ count) (positive : 0 < a .value) (k : ℕ) (p : Param) (m : Nth k p ps)
+      (f : Filled slots j (x ∷ ys) k p) where
+    -- as far as the argument decides it
+    split : {b : Bool} → eqb (a .number) k ≡ b
+        → argumentFor 0 k p xs ≡ orElse (f .held) (orElse (cond b (some (aims .tree)) nothing) (argumentFor (suc j) k p ys))
+    split e =
+        f .same
+        ∙ ap (orElse (f .held)) (argument-first j k p x ys
+        ∙ ap (λ (o : Option Value). orElse o (argumentFor (suc j) k p ys)) (aims .binds k p m ∙ ap (λ (b : Bool). cond b (some (aims .tree)) nothing) e))
 
--- the argument at the first place
-record Started (text table : List ℕ) (n i : ℕ) (is : List ℕ) (xs : List Arg) : Type 0 where
-  one : Arg
-  others : List Arg
-  after : List Token
-  whole : xs ≡ one ∷ others
-  reads : argument maxBrackets (toks text table n i) ≡ ok one after
-  behind : Starts text table n is others
+    -- it binds this parameter, which is bound already or not
+    own : a .number ≡ k → (s : ℕ) → getD slots k 0 ≡ s → Filled (slotSet slots count (a .number) (a .value)) (suc j) ys k p
+    own e s z = by (eqb s 0) refl
+      where
+        here-is : argumentFor 0 k p xs ≡ orElse (f .held) (some (aims .tree))
+        here-is = split (eq-eqb (a .number) k e)
 
-started : {text table : List ℕ} {n i : ℕ} {is : List ℕ} {xs : List Arg} → Starts text table n (i ∷ is) xs → Started text table n i is xs
-started (a-start {x = x} {xs = xs} {us = us} e s) = record { one = x; others = xs; after = us; whole = refl; reads = e; behind = s }
+        by : (b : Bool) → eqb s 0 ≡ b → Filled (slotSet slots count (a .number) (a .value)) (suc j) ys k p
+        by true q =
+            let empty : getD slots k 0 ≡ 0 = z ∙ eqb-true s 0 q in
+            let l : k < count = omega (arith, nth-below m) in
+            let new : getD (slotSet slots count (a .number) (a .value)) k 0 ≡ a .value =
+            ap (λ (i : ℕ). getD (slotSet slots count i (a .value)) k 0) e ∙ slot-new slots count k (a .value) l room empty in
+            record {
+              held = some (aims .tree);
+              at = subst (λ (i : ℕ). ValueAt text table n i (some (aims .tree))) (sym new) (a-value positive (aims .reads));
+              same = here-is ∙ ap (λ (o : Option Value). orElse o (some (aims .tree))) (value-none (f .at) empty);
+            }
+        by false q =
+            let full : getD slots k 0 ≡ 0 → ⊥ = λ (w : getD slots k 0 ≡ 0). eqb-false s 0 q (sym z ∙ w) in
+            let t = value-some (f .at) full in
+            let kept : slotSet slots count (a .number) (a .value) ≡ slots =
+            ap (λ (i : ℕ). slotSet slots count i (a .value)) e ∙ slot-kept slots count k (a .value) full in
+            let some-is : argumentFor 0 k p xs ≡ orElse (f .held) (argumentFor (suc j) k p ys) =
+            here-is ∙ ap (λ (o : Option Value). orElse o (some (aims .tree))) (t .is)
+            ∙ sym (ap (λ (o : Option Value). orElse o (argumentFor (suc j) k p ys)) (t .is)) in
+            record { held = f .held; at = subst (λ (ss : List ℕ). ValueAt text table n (getD ss k 0) (f .held)) (sym kept) (f .at); same = some-is }
 
-no-more : {text table : List ℕ} {n : ℕ} {is : List ℕ} {xs : List Arg} → Starts text table n is xs → is ≡ [] → xs ≡ []
-no-more no-start e = refl
-no-more (a-start h s) e = clash cc
+    pub filled-more : Filled (slotSet slots count (a .number) (a .value)) (suc j) ys k p
+    filled-more = go (eqb (a .number) k) refl
+      where
+        go : (b : Bool) → eqb (a .number) k ≡ b → Filled (slotSet slots count (a .number) (a .value)) (suc j) ys k p
+        go true e = own (eqb-true (a .number) k e) (getD slots k 0) refl
+        go false e =
+            record {
+              held = f .held;
+              at = subst (λ (i : ℕ). ValueAt text table n i (f .held)) (sym (slot-other slots count (a .number) (a .value) k (eqb-false (a .number) k e)))
+                  (f .at);
+              same = split e;
+            }
 
-module _ (dtext dtable : List ℕ) (dn : ℕ) (starts ltext ltable : List ℕ) (ln p k : ℕ) where
-  abbrev Is : Param → List Token → Type 0
-  Is q ws = param maxBrackets (toks ltext ltable ln p) ≡ ok q ws
+-- ---- the walk over the arguments
 
-  -- those left stand at the places from number j on; those passed are not for the parameter
-  pub record Left (xs : List Arg) (q : Param) (j : ℕ) : Type 0 where
+module _ (dtext dtable : List ℕ) (dn : ℕ) (ltext ltable words : List ℕ) (ln : ℕ) (o : Operation) (args : ℕ) (before : List ℕ) where
+  -- the slots with what an argument binds
+  abbrev pub bound : List ℕ → Aim → List ℕ
+  bound slots a = slotSet slots (o .count) (a .number) (a .value)
+
+  abbrev Row : ℕ → List Arg → List Token → Type 0
+  Row i xs us = row plain (commas rightRound) (argument maxBrackets) (toks dtext dtable dn i) ≡ ok xs us
+
+  -- the slots hold what the arguments passed bind; those left are read from the walk's place on
+  pub record Passed (ps : List Param) (xs : List Arg) (us : List Token) (slots : List ℕ) (w : Walk) : Type 0 where
     pub left : List Arg
-    pub at : Starts dtext dtable dn (drop j starts) left
-    pub same : argumentFor 0 k q xs ≡ argumentFor j k q left
+    pub reads : Row (w .at) left us
+    pub filled : (k : ℕ) (p : Param) → Nth k p ps → Filled dtext dtable dn xs slots (w .index) left k p
 
-  abbrev pub Seeks : ℕ → Type 0
-  Seeks j = (xs : List Arg) (q : Param) (ws : List Token) → Starts dtext dtable dn starts xs → Is q ws → Left xs q j
+  abbrev pub Passes : List ℕ → Walk → Type 0
+  Passes slots w =
+      (ps : List Param) (xs : List Arg) (us : List Token) → Declares ltext ltable words ln o ps → Row args xs us → ((k : ℕ) → getD before k 0 ≡ 0)
+      → Passed ps xs us slots w
 
-  abbrev pub Answers : Bound → Type 0
-  Answers r = (xs : List Arg) (q : Param) (ws : List Token) → Starts dtext dtable dn starts xs → Is q ws → Finds dtext dtable dn (argumentFor 0 k q xs) r
+  pub passes-none : (guess : ℕ) → Passes before (record { at = args; index = 0; guess = guess })
+  passes-none guess ps xs us d h z = record {
+    left = xs;
+    reads = h;
+    filled = λ k p m. record { held = nothing; at = subst (λ (i : ℕ). ValueAt dtext dtable dn i nothing) (sym (z k)) no-value; same = refl };
+  }
 
-  pub seeks-all : Seeks 0
-  seeks-all xs q ws h g = record { left = xs; at = h; same = refl }
+  module _ (slots : List ℕ) (w : Walk) (walk : Passes slots w) (room : o .count ≤ length slots) {a : Aim}
+      (aims : Aims dtext dtable dn ltext ltable words ln o w a)
+      (positive : 0 < a .value) (end : ℕ) {sees : ℕ} (ends : EndsAt dtext dtable dn (a .value) end) (looks : sees ≡ lookahead (toks dtext dtable dn end)) where
+    -- the arguments end
+    pub passes-ended : (sees ≡ comma → ⊥) → BindsAll dtext dtable dn args ltext ltable words ln o before (bound slots a) end
+    unfolding argumentFor
+    passes-ended stop ps xs us d h z =
+        let v = walk ps xs us d h z in
+        go v refl (row-ok rightRound (argument maxBrackets) (argument-shrinks maxBrackets) (toks dtext dtable dn (w .at)) (v .reads))
+      where
+        go : (v : Passed ps xs us slots w) {ys : List Arg} → v .left ≡ ys → Rowed rightRound (argument maxBrackets) (toks dtext dtable dn (w .at)) us ys
+            → Slotted dtext dtable dn ps xs (bound slots a) × (us ≡ toks dtext dtable dn (end + 1)) × (end < dn)
+        go v e (last {a = x} {c = c} k q) =
+            let t = aims ps x (c ∷ us) d k in
+            let f = ends (t .tree) (c ∷ us) (t .reads) in (
+              λ i p m.
+                  let g = filled-more dtext dtable dn xs t (o .count) room (omega (arith, d .count)) positive i p m
+                  (subst (λ (ys : List Arg). Filled dtext dtable dn xs slots (w .index) ys i p) e (v .filled i p m)) in
+                  subst (ValueAt dtext dtable dn (getD (bound slots a) i 0)) (sym (g .same ∙ or-none (g .held))) (g .at),
+              ap rest f ∙ toks-rest dtext dtable dn end,
+              token-there dtext dtable dn end (sym f),
+            )
+        go v e (next {a = x} {c = c} {us = vs} k q m) =
+            let t = aims ps x (c ∷ vs) d k in
+            let f = ends (t .tree) (c ∷ vs) (t .reads) in
+            absurd (stop (looks ∙ ap lookahead (sym f) ∙ q))
 
-  pub seek-ended : (j : ℕ) → length starts ≤ j → Seeks j → Answers Missing
-  unfolding argumentFor
-  seek-ended j over walk xs q ws h g =
-      let l = walk xs q ws h g in
-      rw (l .same, no-more (l .at) (drop-of-length-le starts over)) nowhere
-
-  module _ (i j : ℕ) (is : i ≡ getD starts j 0) (inside : j < length starts) (walk : Seeks j) {r : Bound}
-      (here : (x : Arg) (us : List Token) (q : Param) (ws : List Token) → argument maxBrackets (toks dtext dtable dn i) ≡ ok x us → Is q ws
-      → Finds dtext dtable dn (argumentFor j k q (x ∷ [])) r) where
-    first : (xs : List Arg) → Starts dtext dtable dn (drop j starts) xs → Started dtext dtable dn i (drop (suc j) starts) xs
-    first xs s = rw is (started (rw (drop-cons starts j 0 inside) at s))
-
-    pub seek-here : (r ≡ Missing → ⊥) → Answers r
-    seek-here w xs q ws h g =
-        let l = walk xs q ws h g in
-        let f = first (l .left) (l .at) in
-        rw (l .same, f .whole, argument-first j k q (f .one) (f .others))
-        (found-first (here (f .one) (f .after) q ws (f .reads) g) w (argumentFor (suc j) k q (f .others)))
-
-    pub seek-on : r ≡ Missing → Seeks (j + 1)
-    seek-on none xs q ws h g =
-        let l = walk xs q ws h g in
-        let f = first (l .left) (l .at) in
-        let passed = argument-first j k q (f .one) (f .others)
-        ∙ ap (λ (o : Option Value). orElse o (argumentFor (suc j) k q (f .others))) (found-none (here (f .one) (f .after) q ws (f .reads) g) none) in
-        record {
-          left = f .others;
-          at = rw (add-one j) (f .behind);
-          same = l .same ∙ ap (argumentFor j k q) (f .whole) ∙ passed ∙ ap (λ (y : ℕ). argumentFor y k q (f .others)) (sym (add-one j));
-        }
-
--- ---- the default
-
--- a default that is there is read behind its `=`
-default-read : (b : ℕ) (ts : List Token) {v : Value} {us : List Token} → default b ts ≡ ok (some v) us → value literals b (rest ts) ≡ ok v us
-unfolding default
-default-read b ts {v} {us} h = go (begins equal ts) h
-  where
-    go : (t : Bool) → cond t (mapped some (value literals b (rest ts))) (ok nothing ts) ≡ ok (some v) us → value literals b (rest ts) ≡ ok v us
-    go true k =
-        let m = mapped-ok some (value literals b (rest ts)) k in
-        let z = m .made in
-        let e : m .tree ≡ v = cc in
-        m .one ∙ ap (λ (w : Value). ok w us) e
-    go false k = clash cc
-
-module _ (text table : List ℕ) (n p : ℕ) {q : Param} {ws : List Token} {v : Value} (h : param maxBrackets (toks text table n p) ≡ ok q ws)
-    (d : q .default ≡ some v)
-    (e : ℕ) {x : Parsed} (typed : x ≡ parsed e n (type maxBrackets (toks text table n (p + 2)))) {j s : ℕ} (reached : x ≡ Done j)
-    (sees : s ≡ lookahead (toks text table n j)) where
-  -- `=` stands behind the type, and the value behind it
-  pub default-sign : {X : Type 0} → (s ≡ equal → ⊥) → X
-  default-sign w = absurd (true≢false (sym (ap not (ne-eqb s equal w)) ∙ required-is text table n p h e typed reached sees
-      ∙ ap (λ (o : Option Value). not (isSome o)) d))
-
-  pub default-there : value literals maxBrackets (toks text table n (j + 1)) ≡ ok v ws
-  default-there =
-      let t = param-ok maxBrackets (toks text table n p) h in
-      let r = left-at (type-tails maxBrackets) text table e n (p + 2) typed reached (param-type text table n p h) in
-      ap (value literals maxBrackets) (sym (ap rest r ∙ toks-rest text table n j)) ∙ default-read maxBrackets (t .valued)
-      (t .a-default ∙ ap (λ (o : Option Value). ok o ws) d)
+    -- another argument follows the comma
+    pub passes-on : sees ≡ comma → (guess : ℕ) → Passes (bound slots a) (record { at = end + 1; index = w .index + 1; guess = guess })
+    passes-on goes guess ps xs us d h z =
+        let v = walk ps xs us d h z in
+        go v refl (row-ok rightRound (argument maxBrackets) (argument-shrinks maxBrackets) (toks dtext dtable dn (w .at)) (v .reads))
+      where
+        go : (v : Passed ps xs us slots w) {ys : List Arg} → v .left ≡ ys → Rowed rightRound (argument maxBrackets) (toks dtext dtable dn (w .at)) us ys
+            → Passed ps xs us (bound slots a) (record { at = end + 1; index = w .index + 1; guess = guess })
+        go v e (last {a = x} {c = c} k q) =
+            let t = aims ps x (c ∷ us) d k in
+            let f = ends (t .tree) (c ∷ us) (t .reads) in
+            let r : comma ≡ rightRound = sym goes ∙ looks ∙ ap lookahead (sym f) ∙ q in
+            absurd (omega arith)
+        go v e (next {a = x} {c = c} {us = vs} {xs = ys} k q m) =
+            let t = aims ps x (c ∷ vs) d k in
+            let f : vs ≡ toks dtext dtable dn (end + 1) = ap rest (ends (t .tree) (c ∷ vs) (t .reads)) ∙ toks-rest dtext dtable dn end in
+            record {
+              left = ys;
+              reads = rw f at m;
+              filled = λ i p n.
+                  let g = filled-more dtext dtable dn xs t (o .count) room (omega (arith, d .count)) positive i p n
+                  (subst (λ (zs : List Arg). Filled dtext dtable dn xs slots (w .index) zs i p) e (v .filled i p n)) in
+                  rw (add-one (w .index)) g;
+            }
 
 -- ---- the value of a parameter
 

@@ -4,39 +4,48 @@ use mathlib.Core.Path.{_≡_, refl, sym, ap, ap₂, subst, _∙_}
 use mathlib.Core.Bool.{Bool, true, false, _&&_, and-eq-true-iff, true≢false}
 use mathlib.Core.List.{List, []}
 use mathlib.Core.Option.{Option, some}
-use Prim.Native.Nat.{ℕ, _-_, _≤_, _<_}
+use mathlib.Core.Option.{none as nothing}
+use Prim.Native.Nat.{ℕ, _-_, _*_, _≤_, _<_}
 use native.Mathlib.Omega.{arith}
+use native.Mathlib.Nat.{zero-add}
 use borrow.Author.Tests.{le-leb, lt-leb, leb-true}
 use lib.Dec.{leb}
-use lib.ListN.{length, take, replicate}
-use Rattle.lexis.specs.Sizes.{maxText, maxTokens, maxBrackets, workWords}
+use lib.ListN.{length, getD, take, replicate}
+use Rattle.lexis.specs.Sizes.{maxText, maxTokens, maxCalls, workWords}
 use Rattle.lexis.specs.Bytes.{classTable}
 use Rattle.lexis.specs.Code as L
 use Rattle.lexis.specs.Answer.{answer}
 use Rattle.lexis.specs.declared.Answer.{Answer}
 use Rattle.syntax.specs.Tree.{Header, Document}
-use Rattle.syntax.specs.Parser.{parseDocument}
-use Rattle.syntax.specs.Parser.Parse.{ok}
-use Rattle.syntax.specs.Table.{toks, Holds}
+use Rattle.syntax.specs.Table.{Holds}
+use Rattle.lists.specs.Fault.{first}
 use Rattle.lists.specs.ListRules.{listFaults}
-use Rattle.lists.specs.Lists.{Heads, NamePlaces}
+use Rattle.lists.specs.Stages.{ListPassed}
 use Rattle.lists.specs.Answer.{Stage, pass, stop, andThen, guard, stageAnswer, workAfter}
 use Rattle.lists.proofs.Guards.{guard-room, guard-list, guard-document, guard-none, isGuard, kept, cleared-after}
 use Rattle.lists.proofs.First.{first-none}
 use Rattle.documents.specs.DocumentRules.{documentFaults}
 use Rattle.documents.specs.Answer.{bothStages, Checked}
 use Rattle.documents.proofs.Refusals.{both-codes}
-use Rattle.documents.proofs.BothStages.{list-clean, document-clean, both-under}
+use Rattle.documents.specs.declared.stages.Sizes.{Sizes}
+use Rattle.documents.specs.Judged.{Directed, Readable}
+use Rattle.documents.specs.Records.{callSize, recordsWords}
+use Rattle.documents.specs.Stages.{DocumentPassed}
+use Rattle.documents.specs.Tables.{callTable}
+use Rattle.documents.proofs.BothStages.{list-clean, list-directs, document-clean, both-under}
 use Rattle.canonical.specs.Code as Code
-use Rattle.canonical.specs.Plan.{Plan, planOf}
+use Rattle.canonical.specs.Plan.{Plan, planCalls, planOf}
 use Rattle.canonical.specs.Pieces.{Piece, text}
 use Rattle.canonical.specs.Layout.{documentPieces}
 use Rattle.canonical.specs.Answer.{laidOut, layoutOf, writingStages, textStages, CanonRoom, canonRoom, canonServes, written, canonAnswer, outputAfter}
-use Rattle.canonical.specs.Writing.{stored, placeAfter, keepsLimits, PutsAll, all-put, left-over, Ranged, Wrote, TextsNamed}
+use Rattle.canonical.specs.Writing.{stored, placeAfter, keepsLimits, PutsAll, all-put, left-over, Ranged, Wrote}
+use Rattle.canonical.specs.Writing.{Recorded, ReadableOps, PutsDocument, TextsKept}
 use Rattle.canonical.specs.declared.place.Place.{Place}
 use Rattle.canonical.proofs.Putting.{stored-length}
 use Rattle.canonical.proofs.Measures.{passed-is, stored-is, stored-front, limits-kept, ranged}
 use Rattle.canonical.proofs.PlanExists.{plan-exists}
+use Rattle.canonical.proofs.Planned.{bound}
+use Rattle.canonical.proofs.CallWrites.{readable-calls}
 
 -- ---- the stages
 
@@ -94,18 +103,27 @@ module _ {ps : List Piece} {out out' : List ℕ} {s : Place} where
 
 -- ---- a document that has passed
 
-module _ {list doc work₁ work₂ names : List ℕ} {n k m : ℕ} (b : TextsNamed list doc work₁ work₂ names n k m) where
+module _ {list doc work₁ work₂ words records : List ℕ} {z : Sizes} (b : TextsKept list doc work₁ work₂ words records z) where
+  abbrev listed : ListPassed list work₁ (b .index) words (z .list) (z .operations)
+  listed = b .both .passed .first
+
   abbrev headers : List Header
-  headers = b .passed .both .first .headers
+  headers = listed .headers
+
+  abbrev read : DocumentPassed headers doc work₂ (z .document)
+  read = b .both .passed .second
 
   abbrev tree : Document
-  tree = b .passed .both .second .document
+  tree = read .document
+
+  list-faultless : first (listFaults headers) ≡ nothing
+  list-faultless = list-clean list headers (listed .stages)
 
   faultless : documentFaults headers tree ≡ []
-  faultless = first-none (documentFaults headers tree) (document-clean headers doc tree (b .passed .both .second .stages))
+  faultless = first-none (documentFaults headers tree) (document-clean headers doc tree (read .stages))
 
   pub plan : (p : Plan) × (planOf headers tree ≡ some p)
-  plan = plan-exists headers tree (first-none (listFaults headers) (list-clean list headers (b .passed .both .first .stages))) faultless
+  plan = plan-exists headers tree (first-none (listFaults headers) list-faultless) faultless
 
   -- the pieces of its canonical text, and the stages that are left
   abbrev pub laid : List Piece
@@ -114,38 +132,47 @@ module _ {list doc work₁ work₂ names : List ℕ} {n k m : ℕ} (b : TextsNam
   left-are : (out : ℕ) → textStages list doc out ≡ writingStages laid out
   unfolding textStages layoutOf
   left-are out =
-      ap (λ (s : Stage Checked). andThen s (writes list doc out)) (both-under list doc (b .passed .both .first .stages) (b .passed .both .second .stages))
+      ap (λ (s : Stage Checked). andThen s (writes list doc out)) (both-under list doc (listed .stages) (read .stages))
       ∙ ap (λ (o : Option Plan). writingStages (laidOut headers o) out) (plan .1)
 
   -- what putting it asks and ensures
-  abbrev directory : List ℕ
-  directory = take (k - 0) names
+  recorded : Recorded list work₁ words records z headers (tree .calls)
+  unfolding callTable
+  recorded = record { operations = listed .directory; clean = list-faultless; counted = b .both .kept .counted; called = b .both .kept .called }
 
-  part-is : take k names ≡ directory
-  part-is = let e : k ≡ k - 0 = omega arith in ap (λ (j : ℕ). take j names) e
+  abbrev directed : Directed list work₁ (b .index) words (z .list)
+  directed = record { headers = headers; directs = list-directs listed; walkable = listed .walkable; roomy = listed .roomy }
 
-  pub put-asked : (classes : List ℕ) → classes ≡ classTable
-      → Holds list work₁ n × (Ranged classes list work₁ n × (NamePlaces n directory × (Holds doc work₂ m × (Ranged classes doc work₂ m × (m ≤ maxTokens)))))
-  put-asked classes k =
-      let l = b .passed .both .first in
-      let d = b .passed .both .second in (
-        l .table,
+  ops-readable : ReadableOps words records (z .list) (z .calls)
+  unfolding planOf
+  ops-readable =
+      let x = bound (planCalls headers (tree .calls)) _ (plan .1) in
+      record {
+        named = λ i l.
+            let r = readable-calls directed records (tree .calls) 0 (x .there) (recorded .called) i (omega (arith, l, recorded .counted)) in
+            subst (λ (j : ℕ). Readable words (z .list) (getD records (j * callSize) 0)) (zero-add i) r;
+      }
+
+  pub put-asked : (classes : List ℕ) → classes ≡ classTable → recordsWords ≤ length records
+      → Holds list work₁ (z .list) × (Ranged classes list work₁ (z .list) × (ReadableOps words records (z .list) (z .calls)
+      × (Holds doc work₂ (z .document) × (Ranged classes doc work₂ (z .document)
+      × ((z .calls ≤ maxCalls) × (recordsWords ≤ length records) × (z .document ≤ maxTokens))))))
+  put-asked classes k l = (
+    listed .table,
+    (
+      ranged classes list work₁ (z .list) k (listed .table) (listed .lexed),
+      (
+        ops-readable,
         (
-          ranged classes list work₁ n k (l .table) (l .lexed),
-          (
-            subst (NamePlaces n) part-is (b .places),
-            (d .table, (ranged classes doc work₂ m k (d .table) (d .lexed), d .small)),
-          ),
+          read .table,
+          (ranged classes doc work₂ (z .document) k (read .table) (read .lexed), (b .both .kept .few, l, read .small)),
         ),
-      )
+      ),
+    ),
+  )
 
-  pub put-ensured : {out out' : List ℕ} {s : Place}
-      → ((hs : List Header) (d : Document) (p : Plan) → Heads list work₁ n maxBrackets directory hs → parseDocument (toks doc work₂ m 0) ≡ ok d []
-      → documentFaults hs d ≡ [] → planOf hs d ≡ some p → PutsAll (documentPieces hs p) out out' s)
-      → PutsAll laid out out' s
-  put-ensured f =
-      f headers tree (plan .0) (subst (λ (x : List ℕ). Heads list work₁ n maxBrackets x headers) part-is (b .heads)) (b .passed .both .second .parsed) faultless
-      (plan .1)
+  pub put-ensured : {out out' : List ℕ} {s : Place} → PutsDocument list work₁ words records doc work₂ z out out' s → PutsAll laid out out' s
+  put-ensured f = f headers tree (plan .0) recorded (read .parsed) faultless (plan .1)
 
   -- it was put into a buffer
   module _ (out : List ℕ) {buffer buffer' : List ℕ} {s : Place} (w : PutsAll laid buffer buffer' s) where

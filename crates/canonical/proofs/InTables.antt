@@ -1,6 +1,6 @@
 -- Every answer of every operation is on a line of the table of codes. In order: refusals of bytes, syntax and rules; guards and stages; the
 -- four operations.
-use mathlib.Core.Path.{_≡_, refl, sym, ap, _∙_}
+use mathlib.Core.Path.{_≡_, refl, ap, _∙_}
 use mathlib.Core.Bool.{Bool, true, false, cond, _&&_}
 use mathlib.Core.List.{List, [], _∷_, _++_}
 use mathlib.Core.Logic.{_⊎_, inl, inr}
@@ -18,7 +18,6 @@ use Rattle.lexis.specs.Lexer.{Token, Lexed, refused, lex}
 use Rattle.lexis.specs.Lexer.{accepted as lexed}
 use Rattle.lexis.proofs.Theorems.{coded, positioned}
 use Rattle.syntax.specs.Code as Syntax
-use Rattle.syntax.specs.Tree.{Header, Document}
 use Rattle.syntax.specs.Grammar.{IsList, IsDocument}
 use Rattle.syntax.specs.Fault.{FirstFault}
 use Rattle.syntax.specs.Table.{placeOf}
@@ -33,7 +32,6 @@ use Rattle.documents.proofs.Lines.{DocumentCode}
 use Rattle.documents.proofs.Lines as Documents
 use Rattle.documents.proofs.Refusals.{both-refusal}
 use Rattle.documents.proofs.Theorems.{both-passed}
-use Rattle.canonical.specs.Plan.{Plan}
 use Rattle.canonical.specs.Pieces.{Piece, text}
 use Rattle.canonical.specs.Layout.{documentPieces, canonical}
 use Rattle.canonical.specs.Answer.{layoutOf, writingStages, textStages, canonServes, written, canonAnswer}

@@ -14,7 +14,6 @@ use borrow.Author.Tests.{le-leb, lt-leb, leb-true}
 use Rattle.lexis.specs.Sizes.{maxText, maxTokens, maxBrackets, workWords}
 use Rattle.lexis.specs.Code as Code
 use Rattle.lexis.specs.Answer.{answer}
-use Rattle.lexis.specs.declared.Answer.{Answer}
 use Rattle.syntax.specs.Tree.{Header, Document}
 use Rattle.syntax.proofs.Theorems.{one-document}
 use Rattle.lists.specs.Answer.{Stage, pass, stop, andThen, guard, guarded, stageAnswer, tableAfter}

@@ -18,6 +18,7 @@ use Rattle.syntax.specs.Tree.{Value, Values, Ty, Tys}
 use Rattle.syntax.specs.Tree.Values.{none, more}
 use Rattle.syntax.specs.Tree.Tys.{no-type}
 use Rattle.syntax.specs.Grammar.{Leaves, Spells, Items, IsTypeName, IsType}
+use Rattle.syntax.specs.Grammar.Spells.{a-name, a-literal, an-empty-array, an-array, a-tuple}
 use Rattle.syntax.specs.Grammar.Items.{last-item, next-item}
 use Rattle.syntax.specs.Parser.{value, type}
 use Rattle.syntax.specs.Parser.Parse.{ok}
@@ -29,12 +30,15 @@ use Rattle.lists.specs.Reading.{Val, Vals, vArray, vTuple, no-val, a-val, readA
 use Rattle.lists.specs.Fitting.{stacked, IsBase, NoPair, Shaped, Columns, InArray}
 use Rattle.lists.specs.Fitting.Columns.{last-column, next-column}
 use Rattle.lists.specs.Fitting.InArray.{no-items, some-items}
-use Rattle.lists.proofs.Phrases.{value-is, type-is, type-ends}
+use Rattle.lists.proofs.Phrases.{value-is, type-is}
 use Rattle.lists.proofs.Leaves.{first-byte}
+use Rattle.lists.specs.Types.{pairsOf}
 use Rattle.lists.proofs.TypeTokens.{base-none}
+use Rattle.lists.proofs.TypeTokens.{shape as shape-of}
 use Rattle.lists.proofs.Answers.{Seen, seen, look, literal-look, behind, round-no-pair, comma-no-pair}
 use Rattle.lists.proofs.Answers.{array-flat as flat-no-fit}
 use Rattle.lists.proofs.Answers.Seen.{a-name-seen, a-literal-seen, an-array-seen, a-tuple-seen}
+use Rattle.documents.proofs.Items.{token-there}
 use Rattle.canonical.specs.declared.place.Place.{Place}
 use Rattle.canonical.specs.declared.value.Put.{Put}
 use Rattle.canonical.specs.Layout.{mark, pieces, items, moreItems}
@@ -328,8 +332,22 @@ module _ (text table : List ℕ) (n i : ℕ) (ttext ttable : List ℕ) (tn j k e
               let p = at-type g h (comma-no-pair d) y in
               (next-others vs (p .0) (subst (λ (ys : List Token). Columns 0 c ys cs xs) (behind (sym (p .2)) ∙ toks-rest ttext ttable tn e) t) z, p .1)
 
-  -- a value and a type, as the readers read them
-  pub value-put : (m : Leaves) (b : ℕ) (v : Value) (us : List Token) (c : ℕ) (u : Ty) (ws : List Token) (w : Val)
-      → value m b (toks text table n i) ≡ ok v us → type c (toks ttext ttable tn j) ≡ ok u ws → readAt v u ≡ some w → Puts (pieces w) out mid a (x .place)
-  value-put m b v us c u ws w f g q =
-      at-type (value-is m b (toks text table n i) f) (type-is c (toks ttext ttable tn j) g) (type-ends c (toks ttext ttable tn j) g) q .0
+-- a value and a type, as the readers read them
+pub value-put : (text table : List ℕ) (n i : ℕ) (ttext ttable : List ℕ) (tn j k : ℕ) {out mid : List ℕ} {a : Place} (x : Put)
+    → PutsValue text table n i (toks ttext ttable tn j) k out mid a x
+    → (m : Leaves) (b : ℕ) (v : Value) (us : List Token) (c : ℕ) (u : Ty) (ws : List Token) (w : Val) → value m b (toks text table n i) ≡ ok v us
+    → type c (toks ttext ttable tn j) ≡ ok u ws → k ≡ pairsOf u → readAt v u ≡ some w → Puts (pieces w) out mid a (x .place)
+value-put text table n i ttext ttable tn j k x one m b v us c u ws w f g e q =
+    let y = subst (Shaped c (toks ttext ttable tn j) u) (sym e) (shape-of (type-is c (toks ttext ttable tn j) g)) in
+    one m b v us c (y .base) (y .after) w (value-is m b (toks text table n i) f) (y .is-base) (ap (readAt v) (sym (y .under)) ∙ q) .0
+
+-- where a value is read there is one
+pub value-inside : (text table : List ℕ) (n i : ℕ) (m : Leaves) (b : ℕ) {v : Value} {us : List Token} → value m b (toks text table n i) ≡ ok v us → i < n
+value-inside text table n i m b h = go (value-is m b (toks text table n i) h) refl
+  where
+    go : {b : ℕ} {ts us : List Token} {v : Value} → Spells m b ts v us → toks text table n i ≡ ts → i < n
+    go (a-name q e) z = token-there text table n i z
+    go (a-literal q e) z = token-there text table n i z
+    go (an-empty-array e f) z = token-there text table n i z
+    go (an-array e f) z = token-there text table n i z
+    go (a-tuple e f g r) z = token-there text table n i z

@@ -1,13 +1,13 @@
 -- What only the contracts of the writing code cite: what storing bytes from a place of the output on leaves there, how far the place
 -- goes on, and that the pieces of a part were put. A byte beyond the output is counted and not stored.
-use Prim.Native.Nat.{ℕ, suc, _+_, _-_, _<_, _≤_}
+use Prim.Native.Nat.{ℕ, suc, _+_, _-_, _*_, _<_, _≤_}
 use mathlib.Core.Path.{_≡_}
 use mathlib.Core.Bool.{Bool, true, false, cond, _&&_}
-use mathlib.Core.List.{List, [], _∷_, _++_}
+use mathlib.Core.List.{List, [], _∷_, _++_, flatMap}
 use mathlib.Core.Option.{Option, some}
 use mathlib.Core.Option.{none as nothing}
 use lib.Dec.{eqb, leb, ltb}
-use lib.ListN.{length, set, take, drop, getD}
+use lib.ListN.{length, set, drop, getD}
 use Rattle.lexis.specs.Ascii.{ascii, byte}
 use Rattle.lexis.specs.Bytes.{among, isDigit, spanLen, classTable}
 use Rattle.lexis.specs.Sizes.{maxText, maxTokens, maxNumber, maxBrackets}
@@ -16,27 +16,44 @@ use Rattle.lexis.specs.Kind as Kind
 use Rattle.lexis.specs.Number.{partsOf, valueFrom, inRange}
 use Rattle.lexis.specs.Lexer.{Token}
 use Rattle.lexis.specs.Symbol.{symOf, leftRound, rightRound, leftSquare}
-use Rattle.syntax.specs.Tree.{Value, Values, Ty, Tys, Param, Arg}
+use Rattle.lexis.specs.declared.Answer.{Answer}
+use Rattle.syntax.specs.Tree.{Value, Values, Ty, Tys, Param, Header, Arg, Call, Document}
 use Rattle.syntax.specs.Tree.Arg.{positional, named}
 use Rattle.syntax.specs.Grammar.{Leaves, names, both, Spells, Items}
-use Rattle.syntax.specs.Parser.{Parse, value, argument}
+use Rattle.syntax.specs.Parser.{Parse, plain, commas, row, value, argument, call, parseDocument}
 use Rattle.syntax.specs.Parser.Parse.{ok, bad}
 use Rattle.syntax.specs.Inner.{lookahead}
 use Rattle.syntax.specs.Table.{kindAt, tokenAt, toks}
+use Rattle.lists.specs.Fault.{first}
 use Rattle.lists.specs.Reading.{Val, Vals, isNumber, nameAt, literalAt, readAt, readAll, readEach}
-use Rattle.lexis.specs.declared.Answer.{Answer}
+use Rattle.lists.specs.ListRules.{listFaults}
+use Rattle.lists.specs.Lists.{headerFaults}
+use Rattle.lists.specs.Found.{find}
 use Rattle.lists.specs.Answer.{Stage, stageAnswer}
-use Rattle.canonical.specs.Answer.{outputAfter}
 use Rattle.lists.specs.Fitting.{stacked, IsBase, Columns, InArray}
-use Rattle.lists.specs.Lists.{Heads, NamePlaces}
-use Rattle.documents.specs.Stages.{BothPassed}
+use Rattle.lists.specs.Directory.{ParameterAt, OperationAt, OperationsAt}
+use Rattle.documents.specs.Binding as Binding
+use Rattle.documents.specs.Binding.{misplaced}
+use Rattle.documents.specs.Calls.{Calls}
+use Rattle.documents.specs.DocumentRules.{argumentFaults, documentFaults}
+use Rattle.documents.specs.Judged.{Readable}
+use Rattle.documents.specs.Records.{callSize, Stored}
+use Rattle.documents.specs.Stages.{BothKept}
+use Rattle.documents.specs.Tables.{callRecord}
+use Rattle.documents.specs.Tallies.{Declares, Nth}
+use Rattle.documents.specs.declared.operation.Operation.{Operation}
+use Rattle.documents.specs.declared.stages.Sizes.{Sizes}
+use Rattle.canonical.specs.Answer.{outputAfter}
 use Rattle.canonical.specs.declared.place.Place.{Place}
 use Rattle.canonical.specs.declared.value.Put.{Put}
-use Rattle.canonical.specs.declared.argument.Bound.{Bound}
-use Rattle.canonical.specs.declared.argument.Bound.the-variants.{At, Missing}
+use Rattle.canonical.specs.declared.argument.Walk.{Walk}
+use Rattle.canonical.specs.declared.argument.Aim.{Aim}
+use Rattle.canonical.specs.declared.argument.Arguments.{Arguments}
+use Rattle.canonical.specs.declared.call.Step.{Step}
 use Rattle.canonical.specs.Spelling.{decimal}
+use Rattle.canonical.specs.Plan.{PlanCall, Plan, valueFor, valuesFor, planCall, planCalls, planOf}
 use Rattle.canonical.specs.Pieces.{Piece, text}
-use Rattle.canonical.specs.Layout.{mark, piece, namePiece, pieces, items}
+use Rattle.canonical.specs.Layout.{mark, piece, namePiece, pieces, items, argumentPieces, argumentsPieces, callPieces, callsPieces, documentPieces}
 
 -- ---- bytes and tokens
 
@@ -180,16 +197,97 @@ argumentFor j k p [] = nothing
 argumentFor j k p (positional v ∷ xs) = let r = argumentFor (suc j) k p xs in cond (eqb j k) (some v) r
 argumentFor j k p (named t v ∷ xs) = let r = argumentFor (suc j) k p xs in cond (sameBytes (p .name .bytes) (t .bytes)) (some v) r
 
--- the value, where there is one, is read from a place of the table
-pub data Finds (text table : List ℕ) (n : ℕ) : Option Value → Bound → Type 0 where
-  there : {v : Value} {i : ℕ} {us : List Token} → i ≤ n → value both maxBrackets (toks text table n i) ≡ ok v us → Finds text table n (some v) (At i)
-  nowhere : Finds text table n nothing Missing
+-- the value that stands at a place, 0 for none
+pub data ValueAt (text table : List ℕ) (n : ℕ) : ℕ → Option Value → Type 0 where
+  no-value : ValueAt text table n 0 nothing
+  a-value : {i : ℕ} {v : Value} {us : List Token} → 0 < i → value both maxBrackets (toks text table n i) ≡ ok v us → ValueAt text table n i (some v)
 
--- the words are the places of these arguments, in their order
-pub data Starts (text table : List ℕ) (n : ℕ) : List ℕ → List Arg → Type 0 where
-  no-start : Starts text table n [] []
-  a-start : {i : ℕ} {is : List ℕ} {x : Arg} {xs : List Arg} {us : List Token} → argument maxBrackets (toks text table n i) ≡ ok x us → Starts text table n is xs
-      → Starts text table n (i ∷ is) (x ∷ xs)
+-- the slots hold the place of the value that these arguments have for each parameter
+abbrev pub Slotted : List ℕ → List ℕ → ℕ → List Param → List Arg → List ℕ → Type 0
+Slotted text table n ps xs slots = (k : ℕ) (p : Param) → Nth k p ps → ValueAt text table n (getD slots k 0) (argumentFor 0 k p xs)
+
+-- the place v for parameter p, if it is one of so many and has none
+unfoldable pub slotSet : List ℕ → ℕ → ℕ → ℕ → List ℕ
+slotSet slots count p v = cond (ltb p count && eqb (getD slots p 0) 0) (set slots p v) slots
+
+-- a is what the argument x, number j, is for: its value is for the parameter of that number and for no other
+pub record AimsAt (text table : List ℕ) (n : ℕ) (ps : List Param) (j : ℕ) (x : Arg) (us : List Token) (a : Aim) : Type 0 where
+  pub tree : Value
+  pub reads : value both maxBrackets (toks text table n (a .value)) ≡ ok tree us
+  pub binds : (k : ℕ) (p : Param) → Nth k p ps → argumentFor j k p (x ∷ []) ≡ cond (eqb (a .number) k) (some tree) nothing
+
+-- whatever argument stands at the walk's place, and whatever parameters the operation declares
+abbrev pub Aims : List ℕ → List ℕ → ℕ → List ℕ → List ℕ → List ℕ → ℕ → Operation → Walk → Aim → Type 0
+Aims dtext dtable dn ltext ltable words ln o w r =
+    (ps : List Param) (x : Arg) (us : List Token) → Declares ltext ltable words ln o ps → argument maxBrackets (toks dtext dtable dn (w .at)) ≡ ok x us
+    → AimsAt dtext dtable dn ps (w .index) x us r
+
+-- the arguments from place i on were bound in slots that were empty; the bracket at place r closes them
+abbrev pub BindsAll : List ℕ → List ℕ → ℕ → ℕ → List ℕ → List ℕ → List ℕ → ℕ → Operation → List ℕ → List ℕ → ℕ → Type 0
+BindsAll dtext dtable dn i ltext ltable words ln o slots slots' r =
+    (ps : List Param) (xs : List Arg) (us : List Token) → Declares ltext ltable words ln o ps
+    → row plain (commas rightRound) (argument maxBrackets) (toks dtext dtable dn i) ≡ ok xs us → ((k : ℕ) → getD slots k 0 ≡ 0)
+    → Slotted dtext dtable dn ps xs slots' × (us ≡ toks dtext dtable dn (r + 1)) × (r < dn)
+
+-- the value of parameter j of the directory was put: the one at place v, or the default where v is 0
+abbrev pub PutsBound : List ℕ → List ℕ → ℕ → ℕ → List ℕ → List ℕ → List ℕ → ℕ → ℕ → List ℕ → List ℕ → Place → Place → Type 0
+PutsBound dtext dtable dn v ltext ltable words ln j out out' s r =
+    (p : Param) (o : Option Value) (w : Val) → ParameterAt ltext ltable words ln j p → ValueAt dtext dtable dn v o
+    → valueFor (record { param = p; value = o }) ≡ some w → Puts (pieces w) out out' s r
+
+-- and its name before it
+abbrev pub PutsArgument : List ℕ → List ℕ → ℕ → ℕ → List ℕ → List ℕ → List ℕ → ℕ → ℕ → List ℕ → List ℕ → Place → Place → Type 0
+PutsArgument dtext dtable dn v ltext ltable words ln j out out' s r =
+    (p : Param) (o : Option Value) (w : Val) → ParameterAt ltext ltable words ln j p → ValueAt dtext dtable dn v o
+    → valueFor (record { param = p; value = o }) ≡ some w → Puts (argumentPieces p w) out out' s r
+
+-- the arguments of all parameters of an operation were put, whose values stand at these places
+abbrev pub PutsSlots : List ℕ → List ℕ → ℕ → List ℕ → List ℕ → List ℕ → List ℕ → ℕ → Operation → List ℕ → List ℕ → Place → Place → Type 0
+PutsSlots dtext dtable dn slots ltext ltable words ln o out out' s r =
+    (ps : List Param) (xs : List Arg) (vs : List Val) → Declares ltext ltable words ln o ps → Slotted dtext dtable dn ps xs slots → misplaced ps xs ≡ []
+    → valuesFor (Binding.slots ps xs) ≡ some vs → Puts (argumentsPieces ps vs) out out' s r
+
+-- those of the arguments from place i on, which the bracket at place r .close closes
+abbrev pub PutsArguments : List ℕ → List ℕ → ℕ → ℕ → List ℕ → List ℕ → List ℕ → ℕ → Operation → List ℕ → List ℕ → Place → Arguments → Type 0
+PutsArguments dtext dtable dn i ltext ltable words ln o out out' s r =
+    (ps : List Param) (xs : List Arg) (us : List Token) (vs : List Val) → Declares ltext ltable words ln o ps
+    → row plain (commas rightRound) (argument maxBrackets) (toks dtext dtable dn i) ≡ ok xs us → misplaced ps xs ≡ []
+    → valuesFor (Binding.slots ps xs) ≡ some vs
+    → Puts (argumentsPieces ps vs) out out' s (r .place) × (us ≡ toks dtext dtable dn (r .close + 1)) × (r .close < dn)
+
+-- ---- calls
+
+-- the operations that the records of so many calls name can be read
+pub record ReadableOps (words records : List ℕ) (n calls : ℕ) : Type 0 where
+  pub named : (i : ℕ) → i < calls → Readable words n (getD records (i * callSize) 0)
+
+-- the call at place i, whose operation is number k of the directory, was put, and another may stand at place r .next
+abbrev pub PutsCall : List ℕ → List ℕ → List ℕ → ℕ → ℕ → List ℕ → List ℕ → ℕ → ℕ → List ℕ → List ℕ → Place → Step → Type 0
+PutsCall ltext ltable words ln k dtext dtable dn i out out' s r =
+    (hs : List Header) (h : Header) (c : Call) (us : List Token) (p : PlanCall) → OperationAt ltext ltable words ln k h → first (headerFaults h) ≡ nothing
+    → find hs (c .op) ≡ some h → call maxBrackets (toks dtext dtable dn i) ≡ ok c us → argumentFaults hs c ≡ [] → planCall hs c ≡ some p
+    → Puts (callPieces hs p) out out' s (r .place) × (us ≡ toks dtext dtable dn (r .next))
+
+-- the headers hs stand in the directory without faults, and the records of the calls cs name their operations
+pub record Recorded (ltext ltable words records : List ℕ) (z : Sizes) (hs : List Header) (cs : List Call) : Type 0 where
+  pub operations : OperationsAt ltext ltable words (z .list) 0 hs
+  pub clean : first (listFaults hs) ≡ nothing
+  pub counted : z .calls ≡ length cs
+  pub called : Stored records 0 (flatMap (callRecord hs) cs)
+
+-- the calls from place i on were put, up to the limits
+abbrev pub PutsCalls : List ℕ → List ℕ → List ℕ → List ℕ → List ℕ → List ℕ → Sizes → ℕ → List ℕ → List ℕ → Place → Place → Type 0
+PutsCalls ltext ltable words records dtext dtable z i out out' s r =
+    (hs : List Header) (cs : List Call) (us : List Token) (ps : List PlanCall) → Recorded ltext ltable words records z hs cs
+    → Calls maxBrackets (toks dtext dtable (z .document) i) cs us → flatMap (argumentFaults hs) cs ≡ [] → planCalls hs cs ≡ some ps
+    → PutsWithin (callsPieces hs ps) out out' s r
+
+-- the whole document was put, up to the limits
+abbrev pub PutsDocument : List ℕ → List ℕ → List ℕ → List ℕ → List ℕ → List ℕ → Sizes → List ℕ → List ℕ → Place → Type 0
+PutsDocument ltext ltable words records dtext dtable z out out' r =
+    (hs : List Header) (d : Document) (p : Plan) → Recorded ltext ltable words records z hs (d .calls)
+    → parseDocument (toks dtext dtable (z .document) 0) ≡ ok d [] → documentFaults hs d ≡ [] → planOf hs d ≡ some p
+    → PutsAll (documentPieces hs p) out out' r
 
 -- ---- canon
 
@@ -206,14 +304,7 @@ numberThen n b = decimal n ++ (b ∷ [])
 
 -- ---- both texts
 
--- both texts have passed their stages
-pub record TextsPassed (list doc work₁ work₂ : List ℕ) (n k m : ℕ) : Type 0 where
+-- both texts have passed their stages, and the directory of the list and the records of the document are left
+pub record TextsKept (list doc work₁ work₂ words records : List ℕ) (z : Sizes) : Type 0 where
   pub index : List ℕ
-  pub words : List ℕ
-  pub both : BothPassed list doc work₁ work₂ index words n k m
-
--- and the places of the names of the list's operations are in front of `names`
-pub record TextsNamed (list doc work₁ work₂ names : List ℕ) (n k m : ℕ) : Type 0 where
-  pub passed : TextsPassed list doc work₁ work₂ n k m
-  pub places : NamePlaces n (take k names)
-  pub heads : Heads list work₁ n maxBrackets (take k names) (passed .both .first .headers)
+  pub both : BothKept list doc work₁ work₂ index words records z

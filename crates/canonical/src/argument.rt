@@ -1,217 +1,221 @@
 // The arguments of a call, each with its parameter's name, in declared order. The call stands in the document's table, the parameters
-// of its operation in the list's.
+// of its operation in the directory of the list.
 use crate::place::Place;
 use crate::place::put_mark;
 use crate::place::put_token;
 use crate::value::put_value;
-use documents::parameter::Next;
-use documents::parameter::next_item;
+use documents::arguments::number_of;
+use documents::arguments::value_end;
+use documents::operation::Operation;
+use documents::operation::code_of;
+use documents::operation::default_of;
+use documents::operation::name_of;
+use index::token::bytes_at;
 use lexis::limits::Limits;
 use lexis::symbol::Symbol;
-use lists::word::alike;
-use syntax::Parsed;
-use syntax::list::Item;
+use lists::types::pairs_in;
 use syntax::list::is_label;
 use syntax::symbol::symbol_at;
-use syntax::types::type_at;
 ghost use mathlib.Core.Path.{_≡_};
-ghost use mathlib.Core.List.{List, [], _∷_};
-ghost use mathlib.Core.Option.{some};
-ghost use Prim.Native.Nat.{_<_, _≤_};
-ghost use lib.ListN.{length, take};
-ghost use Rattle.lexis.specs.Sizes.{maxBrackets, maxTokens};
-ghost use Rattle.lexis.specs.Lexer.{Token};
-ghost use Rattle.lexis.specs.Symbol.{rightRound};
-ghost use Rattle.syntax.specs.Tree.{Value, Param, Arg};
-ghost use Rattle.syntax.specs.Parser.{row, plain, commas, param, argument};
-ghost use Rattle.syntax.specs.Parser.Parse.{ok};
-ghost use Rattle.syntax.specs.Table.{toks, Holds};
-ghost use Rattle.lists.specs.Reading.{Val, readAt};
-ghost use Rattle.documents.specs.Binding.{misplaced, slots};
-ghost use Rattle.canonical.specs.Plan.{valueFor, valuesFor};
-ghost use Rattle.canonical.specs.Layout.{pieces, argumentsPieces};
-ghost use Rattle.canonical.specs.Layout.{argumentPieces};
-ghost use Rattle.canonical.specs.Writing.{Puts, Ranged, argumentFor, Finds, Starts};
+ghost use Prim.Native.Nat.{_+_, _*_, _<_, _≤_, min};
+ghost use lib.ListN.{length};
+ghost use Rattle.lexis.specs.Sizes.{maxTokens, maxParameters};
+ghost use Rattle.syntax.specs.Table.{Holds};
+ghost use Rattle.lists.specs.Directory.{firstParameter, parameterWords, parameterWord};
+ghost use Rattle.documents.specs.Tallies.{Recorded, NamesBelow};
+ghost use Rattle.canonical.specs.Writing.{slotSet, Aims, BindsAll, Ranged, PutsBound, PutsArgument, PutsSlots, PutsArguments};
 
-// The place of the value that is bound to a parameter, or none.
-pub enum Bound {
-    At(usize),
-    Missing,
-}
-
-// Whether the argument at place i, which is number j, is for the parameter number k, whose name stands at place p; the place of its value.
-fn bound_here(
-    dtext: &[u8],
-    dtable: &[u32],
-    dn: usize,
-    i: usize,
-    j: usize,
-    ltext: &[u8],
-    ltable: &[u32],
-    ln: usize,
-    p: usize,
-    k: usize,
-) -> Bound
-    requires { ⌜ Holds (now dtext) (now dtable) dn ⌝ }
-    requires { ⌜ Holds (now ltext) (now ltable) ln ⌝ }
-    requires { ⌜ p < ln ⌝ }
-    ensures { λ r. ⌜
-        ((x : Arg) (us : List Token) (q : Param) (ws : List Token) → argument maxBrackets (toks (now (dtext .entry)) (now (dtable .entry)) dn i) ≡ ok x us
-        → param maxBrackets (toks (now (ltext .entry)) (now (ltable .entry)) ln p) ≡ ok q ws →
-        Finds (now (dtext .entry)) (now (dtable .entry)) dn (argumentFor j k q (x ∷ [])) r) ⌝ }
-{
-    if is_label(dtext, dtable, dn, i) {
-        if alike(ltext, ltable, ln, p, dtext, dtable, dn, i) {
-            return Bound::At(i + 2);
-        }
-        return Bound::Missing;
-    }
-    if j == k {
-        return Bound::At(i);
-    }
-    Bound::Missing
-}
-
-// A place as it is stored.
-fn wide(x: u16) -> usize
+// A number as it is stored.
+pub fn wide(x: u16) -> usize
     ensures { λ r. ⌜ r ≡ x ⌝ }
 {
     x as usize
 }
 
-// Stores the places of the arguments from place `args` on, one after the other, and gives how many there are.
-pub fn list_arguments(
-    starts: &mut [u16],
-    dtext: &[u8],
-    dtable: &[u32],
-    dn: usize,
-    args: usize,
-) -> usize
-    requires { ⌜ Holds (now dtext) (now dtable) dn ⌝ }
-    requires { ⌜ (dn ≤ maxTokens) × (maxTokens ≤ length (now starts)) ⌝ }
-    ensures range { λ r. ⌜ r ≤ maxTokens ⌝ }
-    ensures meaning { λ r. ⌜ ((xs : List Arg) (us : List Token) →
-        row plain (commas rightRound) (argument maxBrackets) (toks (now (dtext .entry)) (now (dtable .entry)) dn args) ≡ ok xs us →
-        Starts (now (dtext .entry)) (now (dtable .entry)) dn (take r (now (starts .exit))) xs) ⌝ }
-{
-    let mut i = args;
-    let mut j = 0;
-    while i < dn {
-        starts[j] = i as u16;
-        j += 1;
-        let next = next_item(dtext, dtable, dn, i, Item::Argument);
-        let Next::Item(after) = next else {
-            return j;
-        };
-        i = after;
-    }
-    j
+// A walk over the arguments of a call: the place of the next, how many stand before it, and the parameter after the one bound last.
+pub struct Walk {
+    pub at: usize,
+    pub index: usize,
+    pub guess: usize,
 }
 
-// The value that is bound to the parameter number k, whose name stands at place p, by the arguments at these places.
-fn find(
-    starts: &[u16],
+// What an argument is for: the number of a parameter, or one beyond the last; and the place of its value.
+pub struct Aim {
+    pub number: usize,
+    pub value: usize,
+}
+
+// What the argument at the walk's place is for.
+fn aim_of(
     dtext: &[u8],
     dtable: &[u32],
     dn: usize,
     ltext: &[u8],
     ltable: &[u32],
     ln: usize,
-    p: usize,
-    k: usize,
-) -> Bound
+    words: &[u32],
+    o: Operation,
+    w: Walk,
+) -> Aim
     requires { ⌜ Holds (now dtext) (now dtable) dn ⌝ }
     requires { ⌜ Holds (now ltext) (now ltable) ln ⌝ }
-    requires { ⌜ p < ln ⌝ }
-    ensures { λ r. ⌜ ((xs : List Arg) (q : Param) (ws : List Token) → Starts (now (dtext .entry)) (now (dtable .entry)) dn (now (starts .entry)) xs →
-        param maxBrackets (toks (now (ltext .entry)) (now (ltable .entry)) ln p) ≡ ok q ws → Finds (now (dtext .entry)) (now (dtable .entry)) dn (argumentFor 0 k q xs) r) ⌝ }
+    requires { ⌜ Recorded (now words) o ⌝ }
+    requires { ⌜ NamesBelow (now words) ln o ⌝ }
+    requires { ⌜ w .at ≤ dn ⌝ }
+    ensures range { λ r. ⌜ (w .at ≤ r .value) × (r .value ≤ dn + 1) × (r .number ≤ w .index + o .count) ⌝ }
+    ensures meaning { λ r. ⌜ Aims (now (dtext .entry)) (now (dtable .entry)) dn (now (ltext .entry)) (now (ltable .entry)) (now (words .entry)) ln o w r ⌝ }
 {
-    let mut j = 0;
-    while j < starts.len() {
-        let i = wide(starts[j]);
-        let here = bound_here(dtext, dtable, dn, i, j, ltext, ltable, ln, p, k);
-        let Bound::Missing = here else {
-            return here;
+    if is_label(dtext, dtable, dn, w.at) {
+        let name = bytes_at(dtext, dtable, dn, w.at);
+        return Aim {
+            number: number_of(ltext, ltable, ln, words, o, name, w.guess),
+            value: w.at + 2,
         };
-        j += 1;
     }
-    Bound::Missing
+    Aim {
+        number: w.index,
+        value: w.at,
+    }
 }
 
-// Puts the default of the parameter at place p.
-fn put_default(
-    out: &mut [u8],
-    s: Place,
-    classes: &[u8; 256],
-    text: &[u8],
-    table: &[u32],
-    n: usize,
-    p: usize,
-) -> Place
-    requires { ⌜ Holds (now text) (now table) n ⌝ }
-    requires { ⌜ Ranged (now classes) (now text) (now table) n ⌝ }
-    requires { ⌜ p < n ⌝ }
-    ensures { λ r. ⌜
-        ((q : Param) (ws : List Token) (v : Value) (w : Val) → param maxBrackets (toks (now (text .entry)) (now (table .entry)) n p) ≡ ok q ws
-        → q .default ≡ some v → readAt v (q .ty) ≡ some w →
-        Puts (pieces w) (now (out .entry)) (now (out .exit)) s r) ⌝ }
+// Stores the place v for parameter p, if it is one of `count` and has none.
+fn bind(slots: &mut [u16], count: usize, p: usize, v: usize)
+    requires { ⌜ (count ≤ length (now slots)) × (v < 65536) ⌝ }
+    ensures { λ _. ⌜ now (slots .exit) ≡ slotSet (now (slots .entry)) count p v ⌝ }
 {
-    let typed = type_at(text, table, n, p + 2, Limits::BRACKETS);
-    let Parsed::Done(end) = typed else {
-        return s;
-    };
-    if symbol_at(text, table, n, end) != Symbol::EQUAL {
-        return s;
+    if p < count {
+        if slots[p] == 0 {
+            slots[p] = v as u16;
+        }
     }
-    put_value(
-        out,
-        s,
-        classes,
-        text,
-        table,
-        n,
-        end + 1,
-        text,
-        table,
-        n,
-        p + 2,
-    )
 }
 
-// Puts the argument of the parameter number k, which stands at place p.
-fn put_argument(
-    out: &mut [u8],
-    s: Place,
-    classes: &[u8; 256],
-    starts: &[u16],
+// Stores for each parameter the place of the value that the arguments from place `at` on bind to it, and gives the place of the bracket that closes them.
+fn bind_all(
+    slots: &mut [u16],
     dtext: &[u8],
     dtable: &[u32],
     dn: usize,
+    at: usize,
     ltext: &[u8],
     ltable: &[u32],
     ln: usize,
-    p: usize,
-    k: usize,
+    words: &[u32],
+    o: Operation,
+) -> usize
+    requires { ⌜ Holds (now dtext) (now dtable) dn ⌝ }
+    requires { ⌜ Holds (now ltext) (now ltable) ln ⌝ }
+    requires { ⌜ Recorded (now words) o ⌝ }
+    requires { ⌜ NamesBelow (now words) ln o ⌝ }
+    requires { ⌜ (0 < at) × (at ≤ dn) × (dn ≤ maxTokens) × (maxParameters ≤ length (now slots)) ⌝ }
+    ensures range { λ r. ⌜ (min (at + 1) dn ≤ r) × (r ≤ dn) ⌝ }
+    ensures meaning { λ r. ⌜ BindsAll (now (dtext .entry)) (now (dtable .entry)) dn at (now (ltext .entry)) (now (ltable .entry)) (now (words .entry)) ln o
+        (now (slots .entry)) (now (slots .exit)) r ⌝ }
+{
+    let mut w = Walk {
+        at: at,
+        index: 0,
+        guess: 0,
+    };
+    loop {
+        let a = aim_of(dtext, dtable, dn, ltext, ltable, ln, words, o, w);
+        bind(&mut *slots, o.count, a.number, a.value);
+        let end = value_end(dtext, dtable, dn, a.value);
+        if symbol_at(dtext, dtable, dn, end) != Symbol::COMMA {
+            return end;
+        }
+        w = Walk {
+            at: end + 1,
+            index: w.index + 1,
+            guess: a.number + 1,
+        };
+    }
+}
+
+// Puts the value of parameter j of the directory: the one at place v of the document, or the default where v is 0.
+fn put_bound(
+    out: &mut [u8],
+    s: Place,
+    classes: &[u8; 256],
+    dtext: &[u8],
+    dtable: &[u32],
+    dn: usize,
+    v: usize,
+    ltext: &[u8],
+    ltable: &[u32],
+    ln: usize,
+    words: &[u32],
+    j: usize,
 ) -> Place
     requires { ⌜ Holds (now dtext) (now dtable) dn ⌝ }
     requires { ⌜ Ranged (now classes) (now dtext) (now dtable) dn ⌝ }
     requires { ⌜ Holds (now ltext) (now ltable) ln ⌝ }
     requires { ⌜ Ranged (now classes) (now ltext) (now ltable) ln ⌝ }
-    requires { ⌜ p < ln ⌝ }
-    ensures { λ r. ⌜ ((xs : List Arg) (q : Param) (ws : List Token) (w : Val) → Starts (now (dtext .entry)) (now (dtable .entry)) dn (now (starts .entry)) xs →
-        param maxBrackets (toks (now (ltext .entry)) (now (ltable .entry)) ln p) ≡ ok q ws → valueFor (record { param = q; value = argumentFor 0 k q xs }) ≡ some w →
-        Puts (argumentPieces q w) (now (out .entry)) (now (out .exit)) s r) ⌝ }
+    requires { ⌜ (firstParameter + j * parameterWords + 2 < length (now words)) × (parameterWord (now words) j 0 < ln) ⌝ }
+    ensures { λ r. ⌜ PutsBound (now (dtext .entry)) (now (dtable .entry)) dn v (now (ltext .entry)) (now (ltable .entry)) (now (words .entry)) ln j
+        (now (out .entry)) (now (out .exit)) s r ⌝ }
 {
-    let name = put_token(&mut *out, s, ltext, ltable, ln, p);
-    let equal = put_mark(&mut *out, name, b'=');
-    let found = find(starts, dtext, dtable, dn, ltext, ltable, ln, p, k);
-    let Bound::At(v) = found else {
-        return put_default(out, equal, classes, ltext, ltable, ln, p);
-    };
-    if dn < v {
-        return equal;
+    let t = name_of(words, j) + 2;
+    let k = pairs_in(code_of(words, j));
+    if v == 0 {
+        let d = default_of(words, j);
+        return put_value(
+            out,
+            s,
+            classes,
+            ltext,
+            ltable,
+            ln,
+            d,
+            ltext,
+            ltable,
+            ln,
+            t,
+            k,
+        );
     }
     put_value(
+        out,
+        s,
+        classes,
+        dtext,
+        dtable,
+        dn,
+        v,
+        ltext,
+        ltable,
+        ln,
+        t,
+        k,
+    )
+}
+
+// Puts the argument of parameter j of the directory, which is bound to the value at place v, or to its default where v is 0.
+fn put_argument(
+    out: &mut [u8],
+    s: Place,
+    classes: &[u8; 256],
+    dtext: &[u8],
+    dtable: &[u32],
+    dn: usize,
+    v: usize,
+    ltext: &[u8],
+    ltable: &[u32],
+    ln: usize,
+    words: &[u32],
+    j: usize,
+) -> Place
+    requires { ⌜ Holds (now dtext) (now dtable) dn ⌝ }
+    requires { ⌜ Ranged (now classes) (now dtext) (now dtable) dn ⌝ }
+    requires { ⌜ Holds (now ltext) (now ltable) ln ⌝ }
+    requires { ⌜ Ranged (now classes) (now ltext) (now ltable) ln ⌝ }
+    requires { ⌜ (firstParameter + j * parameterWords + 2 < length (now words)) × (parameterWord (now words) j 0 < ln) ⌝ }
+    ensures { λ r. ⌜ PutsArgument (now (dtext .entry)) (now (dtable .entry)) dn v (now (ltext .entry)) (now (ltable .entry)) (now (words .entry)) ln j
+        (now (out .entry)) (now (out .exit)) s r ⌝ }
+{
+    let name = put_token(&mut *out, s, ltext, ltable, ln, name_of(words, j));
+    let equal = put_mark(&mut *out, name, b'=');
+    put_bound(
         out,
         equal,
         classes,
@@ -222,58 +226,125 @@ fn put_argument(
         ltext,
         ltable,
         ln,
-        p + 2,
+        words,
+        j,
     )
 }
 
-// Puts the arguments of a call, which stand at these places, for all parameters from place `params` on.
-pub fn put_arguments(
+// Puts the arguments of all parameters of an operation, whose values stand at these places.
+fn put_slots(
     out: &mut [u8],
     s: Place,
     classes: &[u8; 256],
-    starts: &[u16],
+    slots: &[u16],
     dtext: &[u8],
     dtable: &[u32],
     dn: usize,
     ltext: &[u8],
     ltable: &[u32],
     ln: usize,
-    params: usize,
+    words: &[u32],
+    o: Operation,
 ) -> Place
     requires { ⌜ Holds (now dtext) (now dtable) dn ⌝ }
     requires { ⌜ Ranged (now classes) (now dtext) (now dtable) dn ⌝ }
     requires { ⌜ Holds (now ltext) (now ltable) ln ⌝ }
     requires { ⌜ Ranged (now classes) (now ltext) (now ltable) ln ⌝ }
-    ensures { λ r. ⌜ ((xs : List Arg) (ps : List Param) (ws : List Token) (vs : List Val) →
-        Starts (now (dtext .entry)) (now (dtable .entry)) dn (now (starts .entry)) xs →
-        row plain (commas rightRound) (param maxBrackets) (toks (now (ltext .entry)) (now (ltable .entry)) ln params) ≡ ok ps ws → misplaced ps xs ≡ [] → valuesFor (slots ps xs) ≡ some vs →
-        Puts (argumentsPieces ps vs) (now (out .entry)) (now (out .exit)) s r) ⌝ }
+    requires { ⌜ Recorded (now words) o ⌝ }
+    requires { ⌜ NamesBelow (now words) ln o ⌝ }
+    requires { ⌜ maxParameters ≤ length (now slots) ⌝ }
+    ensures { λ r. ⌜ PutsSlots (now (dtext .entry)) (now (dtable .entry)) dn (now (slots .entry)) (now (ltext .entry)) (now (ltable .entry))
+        (now (words .entry)) ln o (now (out .entry)) (now (out .exit)) s r ⌝ }
 {
+    if o.count == 0 {
+        return s;
+    }
     let mut place = s;
-    let mut p = params;
-    let mut k = 0;
-    while p < ln {
+    let mut i = 0;
+    loop {
         place = put_argument(
             &mut *out,
             place,
             classes,
-            starts,
             dtext,
             dtable,
             dn,
+            wide(slots[i]),
             ltext,
             ltable,
             ln,
-            p,
-            k,
+            words,
+            o.first + i,
         );
-        let next = next_item(ltext, ltable, ln, p, Item::Parameter);
-        let Next::Item(after) = next else {
+        i += 1;
+        if o.count <= i {
             return place;
-        };
+        }
         place = put_mark(&mut *out, place, b',');
-        p = after;
-        k += 1;
     }
-    place
+}
+
+// What was put, and the place of the bracket that closes the arguments.
+pub struct Arguments {
+    pub place: Place,
+    pub close: usize,
+}
+
+// Puts the arguments of a call, which stand from place `at` on, for all parameters of its operation.
+pub fn put_arguments(
+    out: &mut [u8],
+    s: Place,
+    classes: &[u8; 256],
+    dtext: &[u8],
+    dtable: &[u32],
+    dn: usize,
+    at: usize,
+    ltext: &[u8],
+    ltable: &[u32],
+    ln: usize,
+    words: &[u32],
+    o: Operation,
+) -> Arguments
+    requires { ⌜ Holds (now dtext) (now dtable) dn ⌝ }
+    requires { ⌜ Ranged (now classes) (now dtext) (now dtable) dn ⌝ }
+    requires { ⌜ Holds (now ltext) (now ltable) ln ⌝ }
+    requires { ⌜ Ranged (now classes) (now ltext) (now ltable) ln ⌝ }
+    requires { ⌜ Recorded (now words) o ⌝ }
+    requires { ⌜ NamesBelow (now words) ln o ⌝ }
+    requires { ⌜ (0 < at) × (at ≤ dn) × (dn ≤ maxTokens) ⌝ }
+    ensures range { λ r. ⌜ (min (at + 1) dn ≤ r .close) × (r .close ≤ dn) ⌝ }
+    ensures meaning { λ r. ⌜ PutsArguments (now (dtext .entry)) (now (dtable .entry)) dn at (now (ltext .entry)) (now (ltable .entry)) (now (words .entry)) ln o
+        (now (out .entry)) (now (out .exit)) s r ⌝ }
+{
+    let mut slots = [0u16; Limits::PARAMETERS];
+    let close = bind_all(
+        &mut slots,
+        dtext,
+        dtable,
+        dn,
+        at,
+        ltext,
+        ltable,
+        ln,
+        words,
+        o,
+    );
+    let place = put_slots(
+        out,
+        s,
+        classes,
+        &slots,
+        dtext,
+        dtable,
+        dn,
+        ltext,
+        ltable,
+        ln,
+        words,
+        o,
+    );
+    Arguments {
+        place: place,
+        close: close,
+    }
 }

@@ -1,35 +1,29 @@
 // The pieces of calls.
-use crate::argument::list_arguments;
 use crate::argument::put_arguments;
+use crate::argument::wide;
 use crate::pattern::put_left;
 use crate::place::Place;
 use crate::place::keeps_limits;
 use crate::place::put_mark;
 use crate::place::put_spaced;
 use crate::place::put_token;
-use documents::calls::Places;
-use documents::calls::places_at;
-use lists::directory::Lookup;
-use lists::operation::find;
-use lists::word::word;
+use documents::calls::after_call;
+use documents::calls::find;
+use documents::operation::operation_at;
+use documents::records::Records;
+use documents::stages::Sizes;
+use lexis::symbol::Symbol;
 ghost use mathlib.Core.Path.{_≡_};
-ghost use mathlib.Core.List.{List, [], _∷_, flatMap};
-ghost use mathlib.Core.Option.{some};
-ghost use Prim.Native.Nat.{_<_, _≤_};
-ghost use lib.ListN.{length};
+ghost use mathlib.Core.List.{_∷_};
+ghost use Prim.Native.Nat.{_*_, _<_, _≤_};
+ghost use lib.ListN.{length, getD};
 ghost use Rattle.lexis.specs.Ascii.{ascii};
-ghost use Rattle.lexis.specs.Sizes.{maxBrackets, maxTokens};
-ghost use Rattle.lexis.specs.Lexer.{Token};
-ghost use Rattle.syntax.specs.Tree.{Header, Call};
-ghost use Rattle.syntax.specs.Parser.{call};
-ghost use Rattle.syntax.specs.Parser.Parse.{ok};
-ghost use Rattle.syntax.specs.Table.{tokenAt, toks, Holds};
-ghost use Rattle.lists.specs.Lists.{Heads, NamePlaces};
-ghost use Rattle.documents.specs.DocumentRules.{argumentFaults};
-ghost use Rattle.documents.specs.Calls.{Calls, CallAt};
-ghost use Rattle.canonical.specs.Plan.{PlanCall, planCall, planCalls};
-ghost use Rattle.canonical.specs.Layout.{namePiece, mark, callPieces, callsPieces};
-ghost use Rattle.canonical.specs.Writing.{Puts, PutsWithin, Ranged};
+ghost use Rattle.lexis.specs.Sizes.{maxTokens, maxCalls};
+ghost use Rattle.syntax.specs.Table.{tokenAt, Holds};
+ghost use Rattle.documents.specs.Judged.{Readable};
+ghost use Rattle.documents.specs.Records.{callSize, recordsWords};
+ghost use Rattle.canonical.specs.Layout.{namePiece, mark};
+ghost use Rattle.canonical.specs.Writing.{Puts, Ranged, ReadableOps, PutsCall, PutsCalls};
 
 // Puts an equals sign, the name at place `name` and an opening bracket.
 fn put_operation(
@@ -51,116 +45,119 @@ fn put_operation(
     put_mark(out, named, b'(')
 }
 
-// Puts the call at place `at`, whose parts stand at these places.
+// What was put, and the place of the next call.
+pub struct Step {
+    pub place: Place,
+    pub next: usize,
+}
+
+// Puts the call at place `at`, whose operation is number k of the directory.
 fn put_call(
     out: &mut [u8],
     s: Place,
     classes: &[u8; 256],
-    starts: &mut [u16],
     ltext: &[u8],
     ltable: &[u32],
     ln: usize,
-    names: &[u32],
+    words: &[u32],
+    k: usize,
     dtext: &[u8],
     dtable: &[u32],
     dn: usize,
     at: usize,
-    places: Places,
-) -> Place
+) -> Step
     requires { ⌜ Holds (now ltext) (now ltable) ln ⌝ }
     requires { ⌜ Ranged (now classes) (now ltext) (now ltable) ln ⌝ }
-    requires { ⌜ NamePlaces ln (now names) ⌝ }
+    requires { ⌜ Readable (now words) ln k ⌝ }
     requires { ⌜ Holds (now dtext) (now dtable) dn ⌝ }
     requires { ⌜ Ranged (now classes) (now dtext) (now dtable) dn ⌝ }
-    requires { ⌜ places .equal ≤ dn ⌝ }
-    requires { ⌜ (dn ≤ maxTokens) × (maxTokens ≤ length (now starts)) ⌝ }
-    ensures { λ r. ⌜
-        ((hs : List Header) (c : Call) (us : List Token) (p : PlanCall)
-        → Heads (now (ltext .entry)) (now (ltable .entry)) ln maxBrackets (now (names .entry)) hs
-        → call maxBrackets (toks (now (dtext .entry)) (now (dtable .entry)) dn at) ≡ ok c us →
-        CallAt (now (dtext .entry)) (now (dtable .entry)) dn at places c us → argumentFaults hs c ≡ [] → planCall hs c ≡ some p → Puts (callPieces hs p) (now (out .entry)) (now (out .exit)) s r) ⌝ }
+    requires { ⌜ dn ≤ maxTokens ⌝ }
+    ensures { λ r. ⌜ PutsCall (now (ltext .entry)) (now (ltable .entry)) (now (words .entry)) ln k (now (dtext .entry)) (now (dtable .entry)) dn at
+        (now (out .entry)) (now (out .exit)) s r ⌝ }
 {
-    let name = places.equal + 1;
-    if dn <= name {
-        return s;
+    let equal = find(dtext, dtable, dn, at, Symbol::EQUAL);
+    if dn <= equal + 3 {
+        return Step { place: s, next: dn };
     }
-    let found = find(ltext, ltable, ln, names, dtext, dtable, dn, name);
-    let Lookup::At(k) = found else {
-        return s;
-    };
-    let params = word(names, k) + 2;
-    let left = put_left(&mut *out, s, dtext, dtable, dn, at, places.equal);
-    let open = put_operation(&mut *out, left, dtext, dtable, dn, name);
-    let count = list_arguments(&mut *starts, dtext, dtable, dn, name + 2);
+    let o = operation_at(words, k);
+    let left = put_left(&mut *out, s, dtext, dtable, dn, at, equal);
+    let open = put_operation(&mut *out, left, dtext, dtable, dn, equal + 1);
     let all = put_arguments(
         &mut *out,
         open,
         classes,
-        &starts[0..count],
         dtext,
         dtable,
         dn,
+        equal + 3,
         ltext,
         ltable,
         ln,
-        params,
+        words,
+        o,
     );
-    let close = put_mark(&mut *out, all, b')');
-    put_spaced(out, close, b";", 10)
+    let close = put_mark(&mut *out, all.place, b')');
+    Step {
+        place: put_spaced(out, close, b";", 10),
+        next: after_call(dtext, dtable, dn, all.close),
+    }
 }
 
-// Puts the calls from place `body` up to place `end`, and stops beyond the limits: what has passed them is never written.
+// The number of the operation of call i.
+fn operation_of(records: &[u16], i: usize) -> usize
+    requires { ⌜ (i < maxCalls) × (recordsWords ≤ length (now records)) ⌝ }
+    ensures { λ r. ⌜ r ≡ getD (now (records .entry)) (i * callSize) 0 ⌝ }
+{
+    wide(records[i * Records::CALL])
+}
+
+// Puts the calls from place `body` on, whose records stand in front of `records`, and stops beyond the limits: what has passed them is never written.
 pub fn put_calls(
     out: &mut [u8],
     s: Place,
     classes: &[u8; 256],
-    starts: &mut [u16],
     ltext: &[u8],
     ltable: &[u32],
-    ln: usize,
-    names: &[u32],
+    words: &[u32],
+    records: &[u16],
     dtext: &[u8],
     dtable: &[u32],
-    dn: usize,
+    z: Sizes,
     body: usize,
-    end: usize,
 ) -> Place
-    requires { ⌜ Holds (now ltext) (now ltable) ln ⌝ }
-    requires { ⌜ Ranged (now classes) (now ltext) (now ltable) ln ⌝ }
-    requires { ⌜ NamePlaces ln (now names) ⌝ }
-    requires { ⌜ Holds (now dtext) (now dtable) dn ⌝ }
-    requires { ⌜ Ranged (now classes) (now dtext) (now dtable) dn ⌝ }
-    requires { ⌜ end ≤ dn ⌝ }
-    requires { ⌜ (dn ≤ maxTokens) × (maxTokens ≤ length (now starts)) ⌝ }
-    ensures { λ r. ⌜
-        ((hs : List Header) (cs : List Call) (ps : List PlanCall)
-        → Heads (now (ltext .entry)) (now (ltable .entry)) ln maxBrackets (now (names .entry)) hs →
-        Calls maxBrackets (toks (now (dtext .entry)) (now (dtable .entry)) dn body) cs (toks (now (dtext .entry)) (now (dtable .entry)) dn end) →
-        flatMap (argumentFaults hs) cs ≡ [] → planCalls hs cs ≡ some ps → PutsWithin (callsPieces hs ps) (now (out .entry)) (now (out .exit)) s r) ⌝ }
+    requires { ⌜ Holds (now ltext) (now ltable) (z .list) ⌝ }
+    requires { ⌜ Ranged (now classes) (now ltext) (now ltable) (z .list) ⌝ }
+    requires { ⌜ ReadableOps (now words) (now records) (z .list) (z .calls) ⌝ }
+    requires { ⌜ Holds (now dtext) (now dtable) (z .document) ⌝ }
+    requires { ⌜ Ranged (now classes) (now dtext) (now dtable) (z .document) ⌝ }
+    requires { ⌜ (z .calls ≤ maxCalls) × (recordsWords ≤ length (now records)) × (z .document ≤ maxTokens) ⌝ }
+    ensures { λ r. ⌜ PutsCalls (now (ltext .entry)) (now (ltable .entry)) (now (words .entry)) (now (records .entry)) (now (dtext .entry)) (now (dtable .entry))
+        z body (now (out .entry)) (now (out .exit)) s r ⌝ }
 {
     let mut place = s;
     let mut at = body;
-    while at < end {
+    let mut i = 0;
+    while i < z.calls {
         if !keeps_limits(place) {
             return place;
         }
-        let places = places_at(dtext, dtable, dn, at);
-        place = put_call(
+        let step = put_call(
             &mut *out,
             place,
             classes,
-            &mut *starts,
             ltext,
             ltable,
-            ln,
-            names,
+            z.list,
+            words,
+            operation_of(records, i),
             dtext,
             dtable,
-            dn,
+            z.document,
             at,
-            places,
         );
-        at = places.next;
+        place = step.place;
+        at = step.next;
+        i += 1;
     }
     place
 }

@@ -7,25 +7,24 @@ use crate::place::put_spaced;
 use crate::place::put_token;
 use crate::place::put_word;
 use documents::graph::graph_at;
-use lexis::limits::Limits;
+use documents::stages::Sizes;
 ghost use mathlib.Core.Path.{_≡_};
 ghost use mathlib.Core.List.{List, [], _∷_};
-ghost use mathlib.Core.Option.{some};
 ghost use Prim.Native.Nat.{_≤_};
+ghost use lib.ListN.{length};
 ghost use Rattle.lexis.specs.Ascii.{ascii};
 ghost use Rattle.lexis.specs.Kind as Kind;
 ghost use Rattle.lexis.specs.Lexer.{Token};
-ghost use Rattle.lexis.specs.Sizes.{maxBrackets, maxTokens};
+ghost use Rattle.lexis.specs.Sizes.{maxTokens, maxCalls};
 ghost use Rattle.lexis.specs.Symbol.{aName as nameSymbol, rightRound};
-ghost use Rattle.syntax.specs.Tree.{Header, Document};
+ghost use Rattle.syntax.specs.Tree.{Document};
 ghost use Rattle.syntax.specs.Parser.{expect, row, plain, commas, parseDocument};
 ghost use Rattle.syntax.specs.Parser.Parse.{ok};
 ghost use Rattle.syntax.specs.Table.{toks, Holds};
-ghost use Rattle.lists.specs.Lists.{Heads, NamePlaces};
-ghost use Rattle.documents.specs.DocumentRules.{documentFaults};
-ghost use Rattle.canonical.specs.Plan.{Plan, planOf, spellings};
-ghost use Rattle.canonical.specs.Layout.{spaced, lined, namePiece, mark, namesPieces, documentPieces};
-ghost use Rattle.canonical.specs.Writing.{Puts, Ranged, PutsAll};
+ghost use Rattle.documents.specs.Records.{recordsWords};
+ghost use Rattle.canonical.specs.Plan.{spellings};
+ghost use Rattle.canonical.specs.Layout.{spaced, lined, namePiece, mark, namesPieces};
+ghost use Rattle.canonical.specs.Writing.{Puts, Ranged, ReadableOps, PutsDocument};
 
 // Puts the version, the word `graph`, the graph's name and an opening bracket.
 fn put_title(out: &mut [u8], s: Place, text: &[u8], table: &[u32], n: usize) -> Place
@@ -86,44 +85,40 @@ pub fn put_document(
     classes: &[u8; 256],
     ltext: &[u8],
     ltable: &[u32],
-    ln: usize,
-    names: &[u32],
+    words: &[u32],
+    records: &[u16],
     dtext: &[u8],
     dtable: &[u32],
-    dn: usize,
+    z: Sizes,
 ) -> Place
-    requires { ⌜ Holds (now ltext) (now ltable) ln ⌝ }
-    requires { ⌜ Ranged (now classes) (now ltext) (now ltable) ln ⌝ }
-    requires { ⌜ NamePlaces ln (now names) ⌝ }
-    requires { ⌜ Holds (now dtext) (now dtable) dn ⌝ }
-    requires { ⌜ Ranged (now classes) (now dtext) (now dtable) dn ⌝ }
-    requires { ⌜ dn ≤ maxTokens ⌝ }
-    ensures { λ r. ⌜
-        ((hs : List Header) (d : Document) (p : Plan) → Heads (now (ltext .entry)) (now (ltable .entry)) ln maxBrackets (now (names .entry)) hs
-        → parseDocument (toks (now (dtext .entry)) (now (dtable .entry)) dn 0) ≡ ok d [] →
-        documentFaults hs d ≡ [] → planOf hs d ≡ some p → PutsAll (documentPieces hs p) (now (out .entry)) (now (out .exit)) r) ⌝ }
+    requires { ⌜ Holds (now ltext) (now ltable) (z .list) ⌝ }
+    requires { ⌜ Ranged (now classes) (now ltext) (now ltable) (z .list) ⌝ }
+    requires { ⌜ ReadableOps (now words) (now records) (z .list) (z .calls) ⌝ }
+    requires { ⌜ Holds (now dtext) (now dtable) (z .document) ⌝ }
+    requires { ⌜ Ranged (now classes) (now dtext) (now dtable) (z .document) ⌝ }
+    requires { ⌜ (z .calls ≤ maxCalls) × (recordsWords ≤ length (now records)) × (z .document ≤ maxTokens) ⌝ }
+    ensures { λ r. ⌜ PutsDocument (now (ltext .entry)) (now (ltable .entry)) (now (words .entry)) (now (records .entry)) (now (dtext .entry))
+        (now (dtable .entry)) z (now (out .entry)) (now (out .exit)) r ⌝ }
 {
-    let graph = graph_at(dtext, dtable, dn);
+    let n = z.document;
+    let graph = graph_at(dtext, dtable, n);
     let start = Place {
         bytes: 0,
         tokens: 0,
     };
-    let header = put_header(&mut *out, start, dtext, dtable, dn, graph.outputs);
-    let mut starts = [0u16; Limits::TOKENS];
+    let header = put_header(&mut *out, start, dtext, dtable, n, graph.outputs);
     let calls = put_calls(
         &mut *out,
         header,
         classes,
-        &mut starts,
         ltext,
         ltable,
-        ln,
-        names,
+        words,
+        records,
         dtext,
         dtable,
-        dn,
+        z,
         graph.body,
-        graph.end,
     );
     put_spaced(out, calls, b"}", 10)
 }

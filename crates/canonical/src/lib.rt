@@ -14,6 +14,7 @@ use code::Code;
 use document::put_document;
 use documents::check::long_text;
 use documents::records::Records;
+use documents::stages::Sizes;
 use documents::stages::Staged;
 use documents::stages::both_stages;
 use lexis::Answer;
@@ -21,7 +22,6 @@ use lexis::class::CLASSES;
 use lexis::limits::Limits;
 use lists::clear;
 use lists::directory::Room;
-use lists::operation::directory;
 use place::keeps_limits;
 use place::put_bytes;
 ghost use mathlib.Core.Path.{_≡_};
@@ -30,10 +30,11 @@ ghost use Prim.Native.Nat.{_≤_};
 ghost use lib.Dec.{leb};
 ghost use lib.ListN.{length};
 ghost use Rattle.lexis.specs.Answer.{answer};
-ghost use Rattle.lexis.specs.Sizes.{maxText, maxTokens, workWords};
+ghost use Rattle.lexis.specs.Sizes.{maxText, workWords};
 ghost use Rattle.lists.specs.Answer.{workAfter};
+ghost use Rattle.documents.specs.Records.{recordsWords};
 ghost use Rattle.canonical.specs.Answer.{textStages, canonRoom, written, canonAnswer, outputAfter};
-ghost use Rattle.canonical.specs.Writing.{Wrote, TextsPassed, TextsNamed};
+ghost use Rattle.canonical.specs.Writing.{Wrote, TextsKept};
 
 // The bytes of a document whose canonical text goes into a short buffer, and the bytes of that buffer.
 const SHORT_TEXT: usize = 512;
@@ -68,30 +69,28 @@ fn write_by(
     buffer: &mut [u8],
     list: &[u8],
     work1: &[u32],
-    n: usize,
-    names: &[u32],
-    k: usize,
+    words: &[u32],
+    records: &[u16],
     doc: &[u8],
     work2: &[u32],
-    m: usize,
+    z: Sizes,
     out: &mut [u8],
 ) -> Answer
-    requires { ⌜ TextsNamed (now list) (now doc) (now work1) (now work2) (now names) n k m ⌝ }
-    requires { ⌜ maxTokens ≤ length (now names) ⌝ }
+    requires { ⌜ TextsKept (now list) (now doc) (now work1) (now work2) (now words) (now records) z ⌝ }
+    requires { ⌜ recordsWords ≤ length (now records) ⌝ }
     ensures { λ r. ⌜ Wrote (textStages (now (list .entry)) (now (doc .entry)) (length (now (out .entry)))) (now (out .entry)) (now (out .exit)) r ⌝ }
 {
     let classes = CLASSES;
-    let directory = &names[0..k];
     let size = put_document(
         &mut *buffer,
         &classes,
         list,
         work1,
-        n,
-        directory,
+        words,
+        records,
         doc,
         work2,
-        m,
+        z,
     );
     if !keeps_limits(size) {
         return no_text(Code::OVER_LIMITS, 0);
@@ -102,7 +101,7 @@ fn write_by(
         return no_text(Code::SHORT_OUTPUT, detail);
     }
     if buffer.len() < end {
-        put_document(out, &classes, list, work1, n, directory, doc, work2, m);
+        put_document(out, &classes, list, work1, words, records, doc, work2, z);
         return no_text(lexis::code::Code::ACCEPTED, detail);
     }
     put_bytes(out, 0, &buffer[0..end]);
@@ -113,62 +112,59 @@ fn write_by(
 fn write_short(
     list: &[u8],
     work1: &[u32],
-    n: usize,
-    names: &[u32],
-    k: usize,
+    words: &[u32],
+    records: &[u16],
     doc: &[u8],
     work2: &[u32],
-    m: usize,
+    z: Sizes,
     out: &mut [u8],
 ) -> Answer
-    requires { ⌜ TextsNamed (now list) (now doc) (now work1) (now work2) (now names) n k m ⌝ }
-    requires { ⌜ maxTokens ≤ length (now names) ⌝ }
+    requires { ⌜ TextsKept (now list) (now doc) (now work1) (now work2) (now words) (now records) z ⌝ }
+    requires { ⌜ recordsWords ≤ length (now records) ⌝ }
     ensures { λ r. ⌜ Wrote (textStages (now (list .entry)) (now (doc .entry)) (length (now (out .entry)))) (now (out .entry)) (now (out .exit)) r ⌝ }
 {
     let mut buffer = [0u8; SHORT_BUFFER];
-    write_by(&mut buffer, list, work1, n, names, k, doc, work2, m, out)
+    write_by(&mut buffer, list, work1, words, records, doc, work2, z, out)
 }
 
 // The same by way of a buffer that holds every text within the limits.
 fn write_long(
     list: &[u8],
     work1: &[u32],
-    n: usize,
-    names: &[u32],
-    k: usize,
+    words: &[u32],
+    records: &[u16],
     doc: &[u8],
     work2: &[u32],
-    m: usize,
+    z: Sizes,
     out: &mut [u8],
 ) -> Answer
-    requires { ⌜ TextsNamed (now list) (now doc) (now work1) (now work2) (now names) n k m ⌝ }
-    requires { ⌜ maxTokens ≤ length (now names) ⌝ }
+    requires { ⌜ TextsKept (now list) (now doc) (now work1) (now work2) (now words) (now records) z ⌝ }
+    requires { ⌜ recordsWords ≤ length (now records) ⌝ }
     ensures { λ r. ⌜ Wrote (textStages (now (list .entry)) (now (doc .entry)) (length (now (out .entry)))) (now (out .entry)) (now (out .exit)) r ⌝ }
 {
     let mut buffer = [0u8; Limits::TEXT];
-    write_by(&mut buffer, list, work1, n, names, k, doc, work2, m, out)
+    write_by(&mut buffer, list, work1, words, records, doc, work2, z, out)
 }
 
 // The canonical text of a document that has passed its stages. Short texts take the short buffer.
 fn write(
     list: &[u8],
     work1: &[u32],
-    n: usize,
-    k: usize,
+    words: &[u32],
+    records: &[u16],
     doc: &[u8],
     work2: &[u32],
-    m: usize,
+    z: Sizes,
     out: &mut [u8],
 ) -> Answer
-    requires { ⌜ TextsPassed (now list) (now doc) (now work1) (now work2) n k m ⌝ }
+    requires { ⌜ TextsKept (now list) (now doc) (now work1) (now work2) (now words) (now records) z ⌝ }
+    requires { ⌜ recordsWords ≤ length (now records) ⌝ }
     ensures { λ r. ⌜ Wrote (textStages (now (list .entry)) (now (doc .entry)) (length (now (out .entry)))) (now (out .entry)) (now (out .exit)) r ⌝ }
 {
-    let mut names = [0u32; Limits::TOKENS];
-    directory(list, work1, n, &mut names);
     if doc.len() <= SHORT_TEXT {
-        return write_short(list, work1, n, &names, k, doc, work2, m, out);
+        return write_short(list, work1, words, records, doc, work2, z, out);
     }
-    write_long(list, work1, n, &names, k, doc, work2, m, out)
+    write_long(list, work1, words, records, doc, work2, z, out)
 }
 
 // All stages after the guards. Leaves anything in the work areas.
@@ -197,16 +193,7 @@ fn text_stages(
         &mut words,
         &mut records,
     ) {
-        Staged::Passed(s) => write(
-            list,
-            work1,
-            s.list,
-            s.operations,
-            doc,
-            work2,
-            s.document,
-            out,
-        ),
+        Staged::Passed(z) => write(list, work1, &words, &records, doc, work2, z, out),
         Staged::Stopped(r) => r,
     }
 }

@@ -27,6 +27,7 @@ ghost use Rattle.syntax.specs.Parser.{value, type};
 ghost use Rattle.syntax.specs.Parser.Parse.{ok};
 ghost use Rattle.syntax.specs.Table.{tokenAt, toks, Holds};
 ghost use Rattle.lists.specs.Reading.{Val, readAt};
+ghost use Rattle.lists.specs.Types.{pairsOf};
 ghost use Rattle.canonical.specs.Layout.{pieces};
 ghost use Rattle.canonical.specs.Writing.{Puts, Lexed, Ranged, leafAt, Opens, PutsValue, PutsArray, PutsTuple};
 
@@ -350,7 +351,7 @@ fn put_tuple(
     }
 }
 
-// Puts the value at place v, read at the type at place t.
+// Puts the value at place v, read at the type at place t, which has k pairs of square brackets.
 pub fn put_value(
     out: &mut [u8],
     s: Place,
@@ -363,19 +364,21 @@ pub fn put_value(
     ttable: &[u32],
     tn: usize,
     t: usize,
+    k: usize,
 ) -> Place
     requires { ⌜ Holds (now vtext) (now vtable) vn ⌝ }
     requires { ⌜ Ranged (now classes) (now vtext) (now vtable) vn ⌝ }
     requires { ⌜ Holds (now ttext) (now ttable) tn ⌝ }
-    requires { ⌜ v ≤ vn ⌝ }
     ensures { λ r. ⌜
         ((m : Leaves) (b : ℕ) (x : Value) (us : List Token) (c : ℕ) (u : Ty) (ws : List Token) (w : Val)
         → value m b (toks (now (vtext .entry)) (now (vtable .entry)) vn v) ≡ ok x us
-        → type c (toks (now (ttext .entry)) (now (ttable .entry)) tn t) ≡ ok u ws → readAt x u ≡ some w
+        → type c (toks (now (ttext .entry)) (now (ttable .entry)) tn t) ≡ ok u ws → k ≡ pairsOf u → readAt x u ≡ some w
         → Puts (pieces w) (now (out .entry)) (now (out .exit)) s r)
         ⌝ }
 {
-    let k = shape_at(ttext, ttable, tn, t).pairs;
+    if vn < v {
+        return s;
+    }
     put_base(
         out,
         s,

@@ -3,7 +3,7 @@
 use mathlib.Core.Path.{_≡_, refl, sym, ap, subst, _∙_}
 use mathlib.Core.Bool.{Bool, true, false, cond, false≢true}
 use mathlib.Core.List.{List, [], _∷_, _++_, flatMap}
-use Prim.Native.Nat.{ℕ, _+_, _-_, _≤_, _<_, min}
+use Prim.Native.Nat.{ℕ, _+_, _-_, _≤_, _<_}
 use native.Mathlib.Nat.{le-refl}
 use native.Mathlib.Omega.{arith}
 use lib.Dec.{eqb}
@@ -24,8 +24,7 @@ use Rattle.syntax.proofs.Sound.{argument-reads, left-reads}
 use Rattle.lists.specs.Names.{firstToken, namesIn, valueOf, assigned, used}
 use Rattle.lists.specs.Scans.{namesAmong, usesAmong, fromSymbol, openAfter, fromClose}
 use Rattle.lists.proofs.Parts.{cancel, toks-split, First, first-of, those-append, uses-append}
-use Rattle.documents.specs.Calls.{CallFrom, CallAt, PlacesInside}
-use Rattle.documents.specs.declared.calls.Places.{Places}
+use Rattle.documents.specs.Calls.{CallFrom}
 use Rattle.documents.proofs.CallParses.{then-ok, expect-ok, reads-ok, Reading, separated-ok}
 use Rattle.documents.proofs.Flat.{Comes, left-equal, left-names, left-starts, arguments-uses, arguments-close, names-past, uses-past, symbol-here}
 use Rattle.documents.proofs.Flat.{close-here}
@@ -112,9 +111,6 @@ module _ (text table : List ℕ) (n : ℕ) where
 
     closing-is : fromClose 1 (tk i) ≡ y .token ∷ us
     closing-is = y .reached ∙ close-here (y .token) us (y .closes)
-
-    pub closes-at : (close : ℕ) → tk close ≡ fromClose 1 (tk i) → (us ≡ tk (close + 1)) × (close < n)
-    closes-at close e = let f = first-of text table n close (y .token) us (e ∙ closing-is) in (sym (f .rest), f .inside)
 
     -- and a place after which the rest is theirs is that of their bracket
     module _ (close : ℕ) (e : us ≡ toks text table n (close + 1)) (h : close < n) where
@@ -241,38 +237,3 @@ module _ (text table : List ℕ) (n : ℕ) where
         let k = closes (c .args) (w .behind) (read-there e f b c us w) in
         let a = after-is e f b c us w close to k q in
         record { uses = uses-are e f b c us w close to k q; after = a .0; inside = a .1 }
-
-    -- how all places are found
-    pub record Found (p : Places) : Type 0 where
-      pub equal-is : FoundEqual (p .equal)
-      pub within : min (p .equal + 3) n ≤ p .close
-      pub right : p .close ≤ n
-      pub close-is : toks text table n (p .close) ≡ fromClose 1 (toks text table n (p .equal + 3))
-      pub next-is : p .next ≡ cond (begins semicolon (toks text table n (p .close + 1))) (p .close + 2) (p .close + 1)
-
-    pub found-in : (p : Places) → at ≤ n → Found p → PlacesInside n at p
-    found-in p l f =
-        let g = f .equal-is in
-        record {
-          from = g .from;
-          left = g .left;
-          right = f .right;
-          on = let a = f .within in let b = g .left in let w = next-after (toks text table n (p .close + 1)) (p .close) (p .next) (f .next-is) in omega arith;
-          past = next-after (toks text table n (p .close + 1)) (p .close) (p .next) (f .next-is);
-        }
-
-    pub call-at : (p : Places) → Found p → (b : ℕ) (c : Call) (us : List Token) → call b (toks text table n at) ≡ ok c us → CallAt text table n at p c us
-    call-at p f b c us h =
-        let g = call-from (p .equal) (f .equal-is) b c us h in
-        let e = call-ends (p .equal) (p .close) (p .next) (f .equal-is) b (λ xs ws r. closes-at b (p .equal + 3) xs ws r (p .close) (f .close-is)) (f .next-is)
-        c us h in
-        record {
-          first = g .first;
-          leads = g .leads;
-          assigns = g .assigns;
-          title = g .title;
-          uses = e .uses;
-          arguments = g .arguments;
-          after = e .after;
-          inside = (g .inside .0, g .inside .1, e .inside);
-        }

@@ -1,7 +1,7 @@
 -- What the list says to a call: the parts of a call by the place of its `=`, the sum of its faults, and the look-up of its operation.
 -- Relies on `CallPlaces` for the parts of a call, on `CallUsage` for what the look-up makes of its faults and on `Entries` for the directory.
 use mathlib.Core.Path.{_≡_, sym, ap, ap₂, subst, _∙_}
-use mathlib.Core.Bool.{Bool, true, false, not, true≢false}
+use mathlib.Core.Bool.{Bool, not, true≢false}
 use mathlib.Core.List.{List, _∷_, _++_, map, flatMap}
 use mathlib.Core.Option.{Option, some}
 use mathlib.Core.Option.{none as nothing}

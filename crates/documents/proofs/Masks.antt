@@ -9,7 +9,7 @@ use lib.Pow.{pow-pos}
 use lib.ListN.{length}
 use lib.Bits.{bitAnd, and-step, and-zero-l}
 use lib.Count.{trailingZeros}
-use Rattle.lists.specs.Fault.{Fault, first}
+use Rattle.lists.specs.Fault.{Fault}
 use Rattle.lists.specs.Masks.{bit, maskOf}
 use Rattle.lists.proofs.Masks.{half, odd, bit-le}
 use Rattle.documents.specs.Binding.{lacked}

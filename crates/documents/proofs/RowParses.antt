@@ -3,15 +3,14 @@
 use mathlib.Core.Path.{_≡_, refl, sym, ap, _∙_}
 use mathlib.Core.Bool.{Bool, true, false, cond}
 use mathlib.Core.List.{List, [], _∷_}
-use mathlib.Core.Option.{Option}
 use Prim.Native.Nat.{ℕ}
 use native.Mathlib.Omega.{arith}
 use lib.Dec.{eqb}
 use borrow.Author.Tests.{eqb-true}
 use Rattle.lexis.specs.Lexer.{Token}
 use Rattle.lexis.specs.Symbol.{symOf, colon, comma, aName}
-use Rattle.syntax.specs.Tree.{Value, Ty, Param}
-use Rattle.syntax.specs.Parser.{Parse, Reader, then, mapped, expect, follow, onward, plain, row, type, default, param, header}
+use Rattle.syntax.specs.Tree.{Param}
+use Rattle.syntax.specs.Parser.{Parse, Reader, then, mapped, expect, follow, onward, plain, row, type, default}
 use Rattle.syntax.specs.Parser.Parse.{ok, bad}
 use Rattle.syntax.specs.Parser.Row.{commas}
 use Rattle.syntax.specs.Parser.Follow.{again, done, neither}
@@ -102,26 +101,3 @@ pub record IsParam (b : ℕ) (ts : List Token) (p : Param) (us : List Token) : T
   pub a-colon : symOf colon ≡ 58
   pub a-type : type b typed ≡ ok (p .ty) valued
   pub a-default : default b valued ≡ ok (p .default) us
-
-pub param-ok : (b : ℕ) (ts : List Token) {p : Param} {us : List Token} → param b ts ≡ ok p us → IsParam b ts p us
-unfolding param
-param-ok b ts {p} {us} h =
-    let n = then-ok (expect aName ts) _ h in
-    let c = then-ok (expect colon (n .left)) _ (n .then-on) in
-    let u = then-ok (type b (c .left)) _ (c .then-on) in
-    let d = mapped-ok _ (default b (u .left)) (u .then-on) in
-    let x = expect-ok aName ts (n .one) in
-    let y = expect-ok colon (n .left) (c .one) in
-    let m : n .tree ≡ p .name = ap (λ (q : Param). q .name) (d .made) in
-    let v : u .tree ≡ p .ty = ap (λ (q : Param). q .ty) (d .made) in
-    let e : d .tree ≡ p .default = ap (λ (q : Param). q .default) (d .made) in
-    record {
-      colon = c .tree;
-      typed = c .left;
-      valued = u .left;
-      is = x .is ∙ ap (λ (ws : List Token). n .tree ∷ ws) (y .is) ∙ ap (λ (t : Token). t ∷ c .tree ∷ c .left) m;
-      a-name = ap symOf (sym m) ∙ x .symbol;
-      a-colon = y .symbol;
-      a-type = u .one ∙ ap (λ (w : Ty). ok w (u .left)) v;
-      a-default = d .one ∙ ap (λ (w : Option Value). ok w us) e;
-    }

@@ -115,7 +115,7 @@ none-again t seen (p ∷ ps) far h =
     let f = fresh seen (p .name) (paramNames ps) h in
     cons (far (p .name) (f .new)) (none-again t (seen ++ (p .name ∷ [])) ps (λ s n. far s (among-less seen (p .name) s n)) (f .rest))
 
-none-nth : {t : Token} {i : ℕ} {p : Param} {ps : List Param} → None t ps → Nth i p ps → alike p t ≡ false
+pub none-nth : {t : Token} {i : ℕ} {p : Param} {ps : List Param} → None t ps → Nth i p ps → alike p t ≡ false
 none-nth (cons h n) nth-first = h
 none-nth (cons h n) (after k) = none-nth n k
 

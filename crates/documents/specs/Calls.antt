@@ -8,9 +8,8 @@ use Rattle.syntax.specs.Tree.{Arg, Call}
 use Rattle.syntax.specs.Parser.{plain, commas, row, argument, left, call}
 use Rattle.syntax.specs.Parser.Parse.{ok}
 use Rattle.syntax.specs.Table.{tokenAt, toks}
-use Rattle.lists.specs.Names.{firstToken, assigned, used}
-use Rattle.lists.specs.Scans.{namesAmong, usesAmong}
-use Rattle.documents.specs.declared.calls.Places.{Places}
+use Rattle.lists.specs.Names.{firstToken, assigned}
+use Rattle.lists.specs.Scans.{namesAmong}
 
 -- calls in a row, from the tokens before them to those after them
 pub data Calls (b : ℕ) : List Token → List Call → List Token → Type 0 where
@@ -30,23 +29,3 @@ pub record CallFrom (text table : List ℕ) (n at equal : ℕ) (c : Call) : Type
   pub title : tokenAt text table (equal + 1) ≡ c .op
   pub arguments : (b : ℕ) (ws : List Token) → call b (toks text table n at) ≡ ok c ws → Arguments b (toks text table n (equal + 3)) (c .args)
   pub inside : (at < n) × (equal + 1 < n)
-
--- the call c, read from place `at`, has its parts at the places p, and us after it
-pub record CallAt (text table : List ℕ) (n at : ℕ) (p : Places) (c : Call) (us : List Token) : Type 0 where
-  pub first : tokenAt text table at ≡ firstToken (c .left)
-  pub leads : (b : ℕ) (ws : List Token) → call b (toks text table n at) ≡ ok c ws
-      → left b (toks text table n at) ≡ ok (c .left) (toks text table n (p .equal + 1))
-  pub assigns : namesAmong (toks text table (p .equal) at) ≡ assigned c
-  pub title : tokenAt text table (p .equal + 1) ≡ c .op
-  pub uses : usesAmong (toks text table (p .close) (p .equal + 3)) ≡ used c
-  pub arguments : (b : ℕ) (ws : List Token) → call b (toks text table n at) ≡ ok c ws → Arguments b (toks text table n (p .equal + 3)) (c .args)
-  pub after : us ≡ toks text table n (p .next)
-  pub inside : (at < n) × (p .equal + 1 < n) × (p .next ≤ n)
-
--- whatever stands there, the places lie in the table and go on
-pub record PlacesInside (n at : ℕ) (p : Places) : Type 0 where
-  pub from : at ≤ p .equal
-  pub left : p .equal ≤ n
-  pub right : p .close ≤ n
-  pub on : p .equal < p .next
-  pub past : p .close < p .next

@@ -10,6 +10,7 @@ use lexis::limits::Limits;
 use lexis::symbol::Symbol;
 use lists::best::Best;
 use lists::fitting::fits_item;
+use lists::fitting::is_leaf;
 use lists::mask::holds;
 use lists::mask::with;
 use lists::types::is_tensor;
@@ -81,7 +82,7 @@ fn search(ltext: &[u8], ltable: &[u32], ln: usize, words: &[u32], o: Operation, 
 }
 
 // The number of the parameter of the operation that is spelt w, or their count; the guess is tried first.
-fn number_of(
+pub fn number_of(
     ltext: &[u8],
     ltable: &[u32],
     ln: usize,
@@ -206,11 +207,14 @@ fn aim_of(
 }
 
 // The place after the value at place v, or the end.
-fn value_end(text: &[u8], table: &[u32], n: usize, v: usize) -> usize
+pub fn value_end(text: &[u8], table: &[u32], n: usize, v: usize) -> usize
     requires { ⌜ Holds (now text) (now table) n ⌝ }
     ensures range { λ r. ⌜ (min (v + 1) n ≤ r) × (r ≤ n) ⌝ }
     ensures meaning { λ r. ⌜ EndsAt (now (text .entry)) (now (table .entry)) n v r ⌝ }
 {
+    if is_leaf(symbol_at(text, table, n, v)) {
+        return v + 1;
+    }
     let read = value(text, table, n, v, Leaves::Both, Limits::BRACKETS);
     let Parsed::Done(next) = read else {
         return n;

@@ -26,7 +26,6 @@ ghost use Rattle.syntax.specs.Parser.{call};
 ghost use Rattle.syntax.specs.Parser.Parse.{ok};
 ghost use Rattle.syntax.specs.Table.{tokenAt, toks, Holds};
 ghost use Rattle.index.specs.Indexed.{Walkable};
-ghost use Rattle.lists.specs.Fault.{first};
 ghost use Rattle.lists.specs.Names.{allAssigned};
 ghost use Rattle.documents.specs.Calls.{Calls, CallFrom};
 ghost use Rattle.documents.specs.Naming.{headed, assigners, Naming};

@@ -1,5 +1,5 @@
 // Documents under an operation list: their rules, and the operation that checks one.
-mod arguments;
+pub mod arguments;
 mod body;
 pub mod calls;
 pub mod check;
@@ -9,8 +9,7 @@ pub mod graph;
 mod header;
 mod judging;
 mod mask;
-mod operation;
-pub mod parameter;
+pub mod operation;
 pub mod records;
 pub mod stages;
 mod wiring;

@@ -50,3 +50,11 @@ pub fn code_of(words: &[u32], j: usize) -> u32
 {
     words[Param::FIRST + j * Param::WORDS + Param::TYPE]
 }
+
+// The place of the default of parameter j, or 0.
+pub fn default_of(words: &[u32], j: usize) -> usize
+    requires { ⌜ firstParameter + j * parameterWords + 2 < length (now words) ⌝ }
+    ensures { λ r. ⌜ r ≡ parameterWord (now (words .entry)) j 2 ⌝ }
+{
+    word(words, Param::FIRST + j * Param::WORDS + Param::DEFAULT)
+}

@@ -15,7 +15,6 @@ use Rattle.syntax.specs.Parser.{Parse, Reader, then, mapped, expect, follow, on
 use Rattle.syntax.specs.Parser.Parse.{ok, bad}
 use Rattle.syntax.specs.Parser.Row.{commas, to-the-end}
 use Rattle.syntax.specs.Parser.Follow.{again, done, neither}
-use Rattle.lists.specs.Lists.{endsHeader}
 use Rattle.syntax.proofs.Row.{Shrinks, row-is}
 use Rattle.syntax.proofs.Shrinks.{header-shrinks}
 
@@ -209,11 +208,6 @@ header-ok b ts {h} {us} e =
       the-results = r .one ∙ ap (λ (xs : List Result). ok xs us) rs;
     }
 
--- a list: no token, or a header and the list after it
-pub data IsList (b : ℕ) : List Token → List Header → Type 0 where
-  no-header : IsList b [] []
-  a-header : {t : Token} {ts us : List Token} {h : Header} {hs : List Header} → header b (t ∷ ts) ≡ ok h us → IsList b us hs → IsList b (t ∷ ts) (h ∷ hs)
-
 -- the first header and the list after it
 pub record Begun (b : ℕ) (ts : List Token) (hs : List Header) : Type 0 where
   pub head : Header
@@ -236,25 +230,3 @@ begun b t ts hs e =
     on h (u ∷ us) p k =
         let m = mapped-ok (λ (xs : List Header). h ∷ xs) (row plain to-the-end (header b) (u ∷ us)) k in
         record { head = h; others = m .tree; left = u ∷ us; is = sym (m .made); read = p; more = m .one }
-
-pub list-ok : (b : ℕ) (hs : List Header) (ts : List Token) → operations b ts ≡ ok hs [] → IsList b ts hs
-unfolding operations
-list-ok b [] [] e = no-header
-list-ok b (h ∷ hs) [] e = let z : _≡_ {A = ℕ} 0 1 = cc in absurd (omega arith)
-list-ok b [] (t ∷ ts) e = let s = begun b t ts [] e in let i = s .is in let z : _≡_ {A = ℕ} 0 1 = cc in absurd (omega arith)
-list-ok b (h ∷ hs) (t ∷ ts) e =
-    let s = begun b t ts (h ∷ hs) e in
-    let i = s .is in
-    let p : s .head ≡ h = cc in
-    let q : s .others ≡ hs = cc in
-    a-header (s .read ∙ ap (λ (x : Header). ok x (s .left)) p) (list-ok b hs (s .left) (s .more ∙ ap (λ (xs : List Header). ok xs []) q))
-
-pub cons-head : {t u : Token} {ts us : List Token} → t ∷ ts ≡ u ∷ us → t ≡ u
-cons-head h = cc
-
--- what follows a header is the next one, or nothing
-pub list-ends : {b : ℕ} {ts : List Token} {hs : List Header} → IsList b ts hs → endsHeader ts
-list-ends no-header = tt
-list-ends (a-header {t} {ts} h l) =
-    let i = header-ok _ (t ∷ ts) h in
-    ap symOf (cons-head (i .is)) ∙ i .a-word

@@ -22,9 +22,7 @@ pub mod Bests
 pub mod Masks
 -- Operation lists: flat scans, headers, the directory, the stages.
 pub mod HeaderScans
-pub mod Passes
 pub mod HeaderParses
-pub mod HeaderLayout
 pub mod Defaults
 pub mod ListFaults
 pub mod RowFaults
@@ -36,9 +34,7 @@ pub mod RowWalks
 pub mod ResultCodes
 pub mod HeaderReads
 pub mod Faultless
-pub mod Own
 pub mod Directories
-pub mod HeaderWalks
 pub mod ListStages
 pub mod Clearing
 -- What a list is refused for, and what is answered.

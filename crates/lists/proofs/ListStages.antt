@@ -5,11 +5,11 @@ use mathlib.Core.Bool.{true}
 use mathlib.Core.List.{List, [], _++_}
 use mathlib.Core.Option.{Option, some}
 use mathlib.Core.Option.{none as nothing}
-use Prim.Native.Nat.{ℕ, suc, _+_, _*_, _≤_, min}
+use Prim.Native.Nat.{ℕ, _+_, _*_, _≤_, min}
 use native.Mathlib.Nat.{zero-add}
 use native.Mathlib.Omega.{arith}
-use lib.ListN.{length, take, drop, replicate, length-replicate}
-use lib.Seq.{sets, sets-eq, length-sets, take-at}
+use lib.ListN.{length, replicate, length-replicate}
+use lib.Seq.{sets, length-sets}
 use borrow.Author.Tests.{ne-eqb}
 use Rattle.lexis.specs.Sizes.{maxText, maxTokens, recordWords, firstMark, workWords, maxBrackets}
 use Rattle.lexis.specs.Lexer.{Token, Lexed, accepted, refused, lex, Placed}
@@ -36,7 +36,6 @@ use Rattle.index.proofs.Theorems.{empty-walkable}
 use Rattle.lists.specs.Fault.{Fault, earlier, first}
 use Rattle.lists.specs.Best.{clean, faultOf, meant}
 use Rattle.lists.specs.ListRules.{listFaults}
-use Rattle.lists.specs.Lists.{Heads, no-head, a-head, NamePlaces, Directory}
 use Rattle.lists.specs.Answer.{stop, andThen, bytesStage, syntaxStage, rulesStage, listStages}
 use Rattle.lists.specs.Headers.{Roomy, Ready, emptyRow, rowFaults, ofHeaders, Numbered, HeadersRead, OfHeaders}
 use Rattle.lists.specs.Stages.{ListRead, Served, ListPassed, ListDone}
@@ -199,32 +198,3 @@ passed-is {text} {work} {index} {words} d e = subst (ListDone text work index wo
 
 pub stopped-is : (text work index words : List ℕ) (x : Listed) {r : Answer} → ListDone text work index words x → x ≡ Stopped r → listStages text ≡ stop r
 stopped-is text work index words x d e = subst (ListDone text work index words) e d
-
--- ---- with the places of names
-
-heads-length : {text table : List ℕ} {n b : ℕ} {qs : List ℕ} {hs : List Header} → Heads text table n b qs hs → length hs ≡ length qs
-heads-length no-head = refl
-heads-length (a-head r e h) = ap suc (heads-length h)
-
-module _ {text table index words before after : List ℕ} {n k m : ℕ} (list : ListPassed text table index words n k) (large : maxTokens ≤ length before)
-    (dir : Directory text table before after n m)
-  where
-    heads-are : Heads text table n maxBrackets (dir .words) (list .headers)
-    heads-are = dir .heads maxBrackets (list .headers) (list .parsed)
-
-    size : length (dir .words) ≡ k
-    size = sym (heads-length heads-are) ∙ list .count
-
-    cut : after ≡ dir .words ++ drop (0 + length (dir .words)) before
-    cut = let c = size in let f = list .few in let g = list .small in dir .stored ∙ sets-eq (dir .words) before 0 (omega arith)
-
-    same-names : take k after ≡ dir .words
-    same-names =
-        ap (λ (i : ℕ). take i after) (sym size) ∙ ap (take (length (dir .words))) cut
-        ∙ take-at (dir .words) (drop (0 + length (dir .words)) before) (length (dir .words)) refl
-
-    pub names-places : NamePlaces n (take k after)
-    names-places = rw same-names (dir .places)
-
-    pub names-heads : Heads text table n maxBrackets (take k after) (list .headers)
-    names-heads = rw same-names heads-are

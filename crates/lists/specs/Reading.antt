@@ -10,7 +10,6 @@ use lib.ListN.{length, take, drop}
 use Rattle.lexis.specs.Sizes.{maxExtent}
 use Rattle.lexis.specs.Kind as Kind
 use Rattle.lexis.specs.Number.{Reduced, partsOf, reducedOf, valueFrom}
-use Rattle.lexis.specs.Lexer.{Token}
 use Rattle.syntax.specs.Tree.{Value, Values, Ty, Tys, Result}
 use Rattle.syntax.specs.Tree.Value.{name, literal, array, tuple}
 use Rattle.syntax.specs.Tree.Values.{none, more}

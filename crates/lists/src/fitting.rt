@@ -18,12 +18,10 @@ ghost use Rattle.lexis.specs.Sizes.{maxExtent};
 ghost use Rattle.lexis.specs.Number.{valueFrom};
 ghost use Rattle.lexis.specs.Lexer.{Token};
 ghost use Rattle.lexis.specs.Symbol.{comma};
-ghost use Rattle.syntax.specs.Tree.{Value, Ty, Tys};
+ghost use Rattle.syntax.specs.Tree.{Ty, Tys};
 ghost use Rattle.syntax.specs.Tree.Ty.{tupleOf};
-ghost use Rattle.syntax.specs.Parser.{value, type, left};
 ghost use Rattle.syntax.specs.Table.{toks, Holds};
 ghost use Rattle.syntax.specs.Inner.{theEnd};
-ghost use Rattle.lists.specs.Reading.{fits};
 ghost use Rattle.lists.specs.Fitting.{leafFitsAt, isLeaf, leafAnswer, stacked, Several, Columns, OfShape};
 ghost use Rattle.lists.specs.Fitting.{Within, isWhole, OfItem, BaseOf, OfValue, OfArray, OfEach, OfLeft, OfWhole, OfResults};
 
@@ -97,7 +95,7 @@ fn leaf_fits(text: &[u8], table: &[u32], n: usize, at: usize, kinds: u32) -> boo
 }
 
 // Whether the terminal s is a leaf.
-fn is_leaf(s: u32) -> bool
+pub fn is_leaf(s: u32) -> bool
     ensures { λ r. ⌜ r ≡ isLeaf s ⌝ }
 {
     if s < Symbol::NAME {

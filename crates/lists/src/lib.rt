@@ -6,8 +6,6 @@ pub mod fitting;
 mod headers;
 pub mod list;
 pub mod mask;
-pub mod operation;
-mod scan;
 pub mod types;
 pub mod word;
 

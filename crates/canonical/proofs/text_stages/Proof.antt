@@ -22,14 +22,20 @@ both-stages-requires c κs =
     let p = c .before .before .before .before .before .before .before .before .before .before .pre in
     (p .0, ((p .1 .0, (p .1 .1, search needs)), served-zeros 13312 3840 _ refl refl))
 
-enum-known-s : tie.Need-enum-known-s
-enum-known-s c = search needs
+enum-known-z : tie.Need-enum-known-z
+enum-known-z c = search needs
+
+slice-aggregate-write : tie.Need-slice-aggregate-write
+slice-aggregate-write c = search needs
+
+slice-aggregate-write-2 : tie.Need-slice-aggregate-write-2
+slice-aggregate-write-2 c = search needs
 
 write-requires : tie.Need-write-requires
 write-requires c κs =
-    let told = c .before .before .before .before in
+    let told = c .before .before .before .before .before .before in
     let staged = told .before .before .before .before .before .before .before .before .before in
-    record { index = _; words = _; both = both-passed (staged .both-stages .ensures .0) (told .s .given .1) .passed }
+    (record { index = _; both = both-passed (staged .both-stages .ensures .0) (told .z .given .1) }, search needs)
 
 enum-known-r : tie.Need-enum-known-r
 enum-known-r c = search needs
@@ -46,7 +52,7 @@ same-length-3 c = search needs
 returns : tie.Need-returns
 returns c =
     let written = c .before .before in
-    let staged = written .before .before .before .before .before .before .before .before .before .before .before .before .before .before in
+    let staged = written .before .before .before .before .before .before .before .before .before .before .before .before .before .before .before .before in
     (written .write .ensures, staged .both-stages .ensures .1)
 
 same-length-4 : tie.Need-same-length-4
@@ -72,7 +78,9 @@ text-stages-spec =
     slice-aggregate-both-stages-2
     slice-aggregate-both-stages-3
     both-stages-requires
-    enum-known-s
+    enum-known-z
+    slice-aggregate-write
+    slice-aggregate-write-2
     write-requires
     enum-known-r
     same-length

@@ -8,22 +8,11 @@ use borrow.Author.Needs.{needs}
 use Rattle.canonical.proofs.write_by.Statement.{statement}
 use Rattle.canonical.proofs.write_by.Tie as tie
 
-sub-directory : tie.Need-sub-directory
-sub-directory c = search needs
-
-part-directory-start : tie.Need-part-directory-start
-part-directory-start c = search needs
-
-part-directory-end : tie.Need-part-directory-end
-part-directory-end c =
-    let entry = c .before .before .before .before .before .before .before in
-    let p = entry .pre in omega (arith, p .0 .passed .both .first .few, p .0 .passed .both .first .small, p .1)
-
 put-document-requires : tie.Need-put-document-requires
 unfolding classTable classesFrom classOf
 put-document-requires c κs =
     let entry = c .before .before .before .before .before .before .before .before .before .before in
-    put-asked (entry .pre .0) _ refl
+    put-asked (entry .pre .0) _ refl (entry .pre .1)
 
 keeps-limits-requires : tie.Need-keeps-limits-requires
 keeps-limits-requires c κs = search needs
@@ -74,7 +63,7 @@ unfolding classTable classesFrom classOf
 put-document-requires-2 c κs =
     let at-classes = c .before .before .before .before .before .before .before .before .before in
     let entry = at-classes .before .before .before .before .before .before .before .before .before .before in
-    put-asked (entry .pre .0) _ refl
+    put-asked (entry .pre .0) _ refl (entry .pre .1)
 
 no-text-requires-3 : tie.Need-no-text-requires-3
 no-text-requires-3 c κs = search needs
@@ -137,9 +126,6 @@ pub write-by-spec : {M : Type 1} → statement M
 write-by-spec =
     tie.close
     (tie.spec
-    sub-directory
-    part-directory-start
-    part-directory-end
     put-document-requires
     keeps-limits-requires
     no-text-requires

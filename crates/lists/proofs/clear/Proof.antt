@@ -4,7 +4,7 @@ use Prim.Native.Nat.{ℕ, _-_, _≤_, _<_}
 use lib.ListN.{length, set}
 use Rattle.lists.proofs.Clearing.{zeroed, zeroed-none, zeroed-length, zeroed-next, zeroed-all}
 use native.Mathlib.Omega.{arith}
-use mathlib.Core.Path.{_≡_, refl, sym, ap, _∙_}
+use mathlib.Core.Path.{_≡_, ap, _∙_}
 use borrow.Author.Needs.{needs}
 use Rattle.lists.proofs.clear.Statement.{statement}
 use Rattle.lists.proofs.clear.Tie as tie
