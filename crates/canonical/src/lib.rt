@@ -26,12 +26,13 @@ use place::keeps_limits;
 use place::put_bytes;
 ghost use mathlib.Core.Path.{_≡_};
 ghost use mathlib.Core.Bool.{_&&_};
-ghost use Prim.Native.Nat.{_≤_};
+ghost use Prim.Native.Nat.{_≤_, min};
 ghost use lib.Dec.{leb};
 ghost use lib.ListN.{length};
 ghost use Rattle.lexis.specs.Answer.{answer};
-ghost use Rattle.lexis.specs.Sizes.{maxText, workWords};
+ghost use Rattle.lexis.specs.Sizes.{maxText, maxTokens, workWords};
 ghost use Rattle.lists.specs.Answer.{workAfter};
+ghost use Rattle.lists.specs.Stages.{Served};
 ghost use Rattle.documents.specs.Records.{recordsWords};
 ghost use Rattle.canonical.specs.Answer.{textStages, canonRoom, written, canonAnswer, outputAfter};
 ghost use Rattle.canonical.specs.Writing.{Wrote, TextsKept};
@@ -167,7 +168,39 @@ fn write(
     write_long(list, work1, words, records, doc, work2, z, out)
 }
 
-// All stages after the guards. Leaves anything in the work areas.
+// All stages after the guards, by way of words for the list's directory and its names. Leaves anything in them and in the work areas.
+fn stages_by(
+    lindex: &mut [u16],
+    words: &mut [u32],
+    list: &[u8],
+    doc: &[u8],
+    work1: &mut [u32],
+    work2: &mut [u32],
+    out: &mut [u8],
+) -> Answer
+    requires { ⌜ (length (now list) ≤ maxText) × (length (now doc) ≤ maxText) ⌝ }
+    requires { ⌜ (workWords ≤ length (now work1)) × (workWords ≤ length (now work2)) ⌝ }
+    requires { ⌜ Served (now lindex) (now words) (min (length (now list)) maxTokens) ⌝ }
+    ensures { λ r. ⌜ Wrote (textStages (now (list .entry)) (now (doc .entry)) (length (now (out .entry)))) (now (out .entry)) (now (out .exit)) r ⌝ }
+    ensures { λ _. ⌜ length (now (work1 .exit)) ≡ length (now (work1 .entry)) ⌝ }
+    ensures { λ _. ⌜ length (now (work2 .exit)) ≡ length (now (work2 .entry)) ⌝ }
+{
+    let mut records = [0u16; Records::WORDS];
+    match both_stages(
+        list,
+        doc,
+        &mut *work1,
+        &mut *work2,
+        lindex,
+        &mut *words,
+        &mut records,
+    ) {
+        Staged::Passed(z) => write(list, work1, words, &records, doc, work2, z, out),
+        Staged::Stopped(r) => r,
+    }
+}
+
+// The same by way of words of its own.
 fn text_stages(
     list: &[u8],
     doc: &[u8],
@@ -181,21 +214,14 @@ fn text_stages(
     ensures { λ _. ⌜ length (now (work1 .exit)) ≡ length (now (work1 .entry)) ⌝ }
     ensures { λ _. ⌜ length (now (work2 .exit)) ≡ length (now (work2 .entry)) ⌝ }
 {
+    if list.len() <= Room::SHORT_TEXT {
+        let mut index = [0u16; Room::SHORT_INDEX];
+        let mut directory = [0u32; Room::SHORT_WORDS];
+        return stages_by(&mut index, &mut directory, list, doc, work1, work2, out);
+    }
     let mut lindex = [0u16; Room::INDEX];
     let mut words = [0u32; Room::WORDS];
-    let mut records = [0u16; Records::WORDS];
-    match both_stages(
-        list,
-        doc,
-        &mut *work1,
-        &mut *work2,
-        &mut lindex,
-        &mut words,
-        &mut records,
-    ) {
-        Staged::Passed(z) => write(list, work1, &words, &records, doc, work2, z, out),
-        Staged::Stopped(r) => r,
-    }
+    stages_by(&mut lindex, &mut words, list, doc, work1, work2, out)
 }
 
 // The operation: after acceptance the output begins with the canonical text of the document. After any answer but a refusal of what is

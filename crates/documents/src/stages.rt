@@ -14,6 +14,7 @@ ghost use lib.ListN.{length};
 ghost use Rattle.lexis.specs.Bytes.{classTable};
 ghost use Rattle.lexis.specs.Sizes.{maxText, maxTokens, workWords};
 ghost use Rattle.lists.specs.Stages.{Served, ListPassed};
+ghost use Rattle.documents.specs.Graphs.{Blank};
 ghost use Rattle.documents.specs.Records.{recordsWords};
 ghost use Rattle.documents.specs.Stages.{DocumentRead, BothDone};
 
@@ -30,6 +31,62 @@ pub struct Sizes {
 pub enum Staged {
     Passed(Sizes),
     Stopped(Answer),
+}
+
+// A document of at most so many tokens takes an index that is soon cleared.
+const FEW: usize = 256;
+
+const SHORT_INDEX: usize = Layout::CHAINS + FEW * Layout::PLACE_WORDS;
+
+// The rules of a document of m tokens under its list, by way of an empty index.
+fn rules_by(
+    index: &mut [u16],
+    list: &[u8],
+    work1: &[u32],
+    n: usize,
+    lindex: &[u16],
+    words: &[u32],
+    k: usize,
+    doc: &[u8],
+    work2: &[u32],
+    m: usize,
+    records: &mut [u16],
+) -> Staged
+    requires { ⌜ ListPassed (now list) (now work1) (now lindex) (now words) n k ⌝ }
+    requires { ⌜ DocumentRead (now doc) (now work2) m ⌝ }
+    requires { ⌜ (length (now doc) ≤ maxText) × (recordsWords ≤ length (now records)) ⌝ }
+    requires { ⌜ Blank (now index) m ⌝ }
+    ensures { λ r. ⌜ BothDone (now (list .entry)) (now (doc .entry)) (now (work1 .entry)) (now (work2 .entry)) (now (lindex .entry)) (now (words .entry))
+        (now (records .exit)) r ⌝ }
+{
+    let ruled = document_rules(
+        list,
+        work1,
+        n,
+        lindex,
+        words,
+        doc,
+        work2,
+        m,
+        index,
+        records,
+    );
+    let best = ruled.best;
+    if best.code != lexis::code::Code::ACCEPTED {
+        return Staged::Stopped(Answer {
+            code: best.code,
+            text: 2,
+            position: best.at,
+            detail: best.detail,
+        });
+    }
+    Staged::Passed(Sizes {
+        list: n,
+        operations: k,
+        document: m,
+        calls: ruled.calls,
+        uses: ruled.uses,
+    })
 }
 
 // The rules of a document of m tokens under its list.
@@ -51,35 +108,12 @@ fn rules_stage(
     ensures { λ r. ⌜ BothDone (now (list .entry)) (now (doc .entry)) (now (work1 .entry)) (now (work2 .entry)) (now (lindex .entry)) (now (words .entry))
         (now (records .exit)) r ⌝ }
 {
-    let mut index = [0u16; Layout::WORDS];
-    let ruled = document_rules(
-        list,
-        work1,
-        n,
-        lindex,
-        words,
-        doc,
-        work2,
-        m,
-        &mut index,
-        records,
-    );
-    let best = ruled.best;
-    if best.code != lexis::code::Code::ACCEPTED {
-        return Staged::Stopped(Answer {
-            code: best.code,
-            text: 2,
-            position: best.at,
-            detail: best.detail,
-        });
+    if m <= FEW {
+        let mut short = [0u16; SHORT_INDEX];
+        return rules_by(&mut short, list, work1, n, lindex, words, k, doc, work2, m, records);
     }
-    Staged::Passed(Sizes {
-        list: n,
-        operations: k,
-        document: m,
-        calls: ruled.calls,
-        uses: ruled.uses,
-    })
+    let mut index = [0u16; Layout::WORDS];
+    rules_by(&mut index, list, work1, n, lindex, words, k, doc, work2, m, records)
 }
 
 // The stages of a document under a list that has passed its own.

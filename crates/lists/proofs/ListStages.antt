@@ -5,7 +5,7 @@ use mathlib.Core.Bool.{true}
 use mathlib.Core.List.{List, [], _++_}
 use mathlib.Core.Option.{Option, some}
 use mathlib.Core.Option.{none as nothing}
-use Prim.Native.Nat.{ℕ, _+_, _*_, _≤_, min}
+use Prim.Native.Nat.{_/_, ℕ, _+_, _*_, _≤_, min}
 use native.Mathlib.Nat.{zero-add}
 use native.Mathlib.Omega.{arith}
 use lib.ListN.{length, replicate, length-replicate}
@@ -31,8 +31,10 @@ use Rattle.syntax.specs.declared.Syntax.the-variants as S
 use Rattle.syntax.proofs.Reading.{got}
 use Rattle.syntax.proofs.Table.{toks-length}
 use Rattle.syntax.proofs.Theorems.{list-all-read}
+use Rattle.index.specs.Layout.{indexWords}
 use Rattle.index.specs.Indexed.{Walkable}
 use Rattle.index.proofs.Theorems.{empty-walkable}
+use Rattle.lists.specs.Directory.{firstParameter, parameterWords}
 use Rattle.lists.specs.Fault.{Fault, earlier, first}
 use Rattle.lists.specs.Best.{clean, faultOf, meant}
 use Rattle.lists.specs.ListRules.{listFaults}
@@ -165,8 +167,9 @@ list-few {text} {work} {n} list =
     let l = toks-length text work n 0 in
     omega arith
 
--- zeros for as many tokens as a text may have
-pub served-zeros : (i w m : ℕ) → i ≡ 13312 → w ≡ 3840 → Served (replicate i 0) (replicate w 0) (min m maxTokens)
+-- zeros, as many as a text of m bytes may ask for
+pub served-zeros : (i w m : ℕ) → indexWords (min m maxTokens) ≤ i → firstParameter + min m maxTokens / 4 * parameterWords ≤ w
+    → Served (replicate i 0) (replicate w 0) (min m maxTokens)
 served-zeros i w m e f =
     let a : length {A = ℕ} (replicate i 0) ≡ i = length-replicate i 0 in
     let b : length {A = ℕ} (replicate w 0) ≡ w = length-replicate w 0 in

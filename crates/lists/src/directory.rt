@@ -62,6 +62,13 @@ impl Room {
     pub const WORDS: usize = Param::FIRST + Limits::TOKENS / 4 * Param::WORDS;
 
     pub const INDEX: usize = Layout::CHAINS + Limits::TOKENS * Layout::PLACE_WORDS;
+
+    // A list of at most so many bytes has no more tokens, and takes words that are soon cleared.
+    pub const SHORT_TEXT: usize = 512;
+
+    pub const SHORT_WORDS: usize = Param::FIRST + Room::SHORT_TEXT / 4 * Param::WORDS;
+
+    pub const SHORT_INDEX: usize = Layout::CHAINS + Room::SHORT_TEXT * Layout::PLACE_WORDS;
 }
 
 // The words of a name in the index: the number of the operation of that name, and that of the last header with a parameter or result of that name. Both are

@@ -1,44 +1,21 @@
--- All stages of both texts, then the text is written where they pass.
-use mathlib.Core.Path.{refl}
-use lib.ListN.{length}
+-- By way of short words or long ones.
+use native.Mathlib.Omega.{arith}
 use Rattle.lists.proofs.ListStages.{served-zeros}
-use Rattle.documents.proofs.BothStages.{both-passed, both-stopped}
-use Rattle.canonical.proofs.CanonStages.{wrote-stopped, text-stopped}
 use borrow.Author.Needs.{needs}
 use Rattle.canonical.proofs.text_stages.Statement.{statement}
 use Rattle.canonical.proofs.text_stages.Tie as tie
 
-slice-aggregate-both-stages : tie.Need-slice-aggregate-both-stages
-slice-aggregate-both-stages c = search needs
+slice-aggregate-stages-by : tie.Need-slice-aggregate-stages-by
+slice-aggregate-stages-by c = search needs
 
-slice-aggregate-both-stages-2 : tie.Need-slice-aggregate-both-stages-2
-slice-aggregate-both-stages-2 c = search needs
+slice-aggregate-stages-by-2 : tie.Need-slice-aggregate-stages-by-2
+slice-aggregate-stages-by-2 c = search needs
 
-slice-aggregate-both-stages-3 : tie.Need-slice-aggregate-both-stages-3
-slice-aggregate-both-stages-3 c = search needs
-
-both-stages-requires : tie.Need-both-stages-requires
-both-stages-requires c κs =
-    let p = c .before .before .before .before .before .before .before .before .before .before .pre in
-    (p .0, ((p .1 .0, (p .1 .1, search needs)), served-zeros 13312 3840 _ refl refl))
-
-enum-known-z : tie.Need-enum-known-z
-enum-known-z c = search needs
-
-slice-aggregate-write : tie.Need-slice-aggregate-write
-slice-aggregate-write c = search needs
-
-slice-aggregate-write-2 : tie.Need-slice-aggregate-write-2
-slice-aggregate-write-2 c = search needs
-
-write-requires : tie.Need-write-requires
-write-requires c κs =
-    let told = c .before .before .before .before .before .before in
-    let staged = told .before .before .before .before .before .before .before .before .before in
-    (record { index = _; both = both-passed (staged .both-stages .ensures .0) (told .z .given .1) }, search needs)
-
-enum-known-r : tie.Need-enum-known-r
-enum-known-r c = search needs
+stages-by-requires : tie.Need-stages-by-requires
+stages-by-requires c κs =
+    let few = c .before .before .before .before .before .if1 .taken in
+    let p = c .before .before .before .before .before .before .before .before .before .before .before .pre in
+    (p .0, (p .1, served-zeros 2560 1152 _ (omega (arith, few)) (omega (arith, few))))
 
 same-length : tie.Need-same-length
 same-length c = search needs
@@ -50,10 +27,18 @@ same-length-3 : tie.Need-same-length-3
 same-length-3 c = search needs
 
 returns : tie.Need-returns
-returns c =
-    let written = c .before .before in
-    let staged = written .before .before .before .before .before .before .before .before .before .before .before .before .before .before .before .before in
-    (written .write .ensures, staged .both-stages .ensures .1)
+returns c = c .before .before .before .before .before .before .before .before .stages-by .ensures
+
+slice-aggregate-stages-by-3 : tie.Need-slice-aggregate-stages-by-3
+slice-aggregate-stages-by-3 c = search needs
+
+slice-aggregate-stages-by-4 : tie.Need-slice-aggregate-stages-by-4
+slice-aggregate-stages-by-4 c = search needs
+
+stages-by-requires-2 : tie.Need-stages-by-requires-2
+stages-by-requires-2 c κs =
+    let p = c .before .before .before .before .before .before .before .before .before .before .before .pre in
+    (p .0, (p .1, served-zeros 13312 3840 _ (omega arith) (omega arith)))
 
 same-length-4 : tie.Need-same-length-4
 same-length-4 c = search needs
@@ -61,32 +46,27 @@ same-length-4 c = search needs
 same-length-5 : tie.Need-same-length-5
 same-length-5 c = search needs
 
+same-length-6 : tie.Need-same-length-6
+same-length-6 c = search needs
+
 returns-2 : tie.Need-returns-2
-returns-2 c =
-    let told = c .before in
-    let staged = told .before .before .before .before .before .before .before .before .before in
-    let a = staged .before .before .before .before .before .before .before .before .before .before .before .args in
-    let x = staged .both-stages in
-    let t = both-stopped (a .list .now) (a .doc .now) _ _ _ _ _ (x .result) (x .ensures .0) (told .r .given .1) in
-    (wrote-stopped (text-stopped (a .list .now) (a .doc .now) (length (a .out .now)) t) refl refl, x .ensures .1)
+returns-2 c = c .before .before .before .before .before .before .before .before .stages-by2 .ensures
 
 pub text-stages-spec : {M : Type 1} → statement M
 text-stages-spec =
     tie.close
     (tie.spec
-    slice-aggregate-both-stages
-    slice-aggregate-both-stages-2
-    slice-aggregate-both-stages-3
-    both-stages-requires
-    enum-known-z
-    slice-aggregate-write
-    slice-aggregate-write-2
-    write-requires
-    enum-known-r
+    slice-aggregate-stages-by
+    slice-aggregate-stages-by-2
+    stages-by-requires
     same-length
     same-length-2
     same-length-3
     returns
+    slice-aggregate-stages-by-3
+    slice-aggregate-stages-by-4
+    stages-by-requires-2
     same-length-4
     same-length-5
+    same-length-6
     returns-2)

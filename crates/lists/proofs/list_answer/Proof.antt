@@ -21,7 +21,7 @@ slice-aggregate-list-stages-2 c = search needs
 
 list-stages-requires : tie.Need-list-stages-requires
 unfolding classTable classesFrom classOf
-list-stages-requires c κs = let p = c .before .before .before .before .before .before .pre in (refl, ((p .0, p .1), served-zeros 13312 3840 _ refl refl))
+list-stages-requires c κs = let p = c .before .before .before .before .before .before .pre in (refl, ((p .0, p .1), served-zeros 13312 3840 _ (omega arith) (omega arith)))
 
 enum-known--n : tie.Need-enum-known--n
 enum-known--n c = search needs

@@ -1,57 +1,48 @@
--- A fault stops the stages; without one both texts pass.
+-- By way of a short index or a long one.
 use mathlib.Core.Path.{refl}
 use native.Mathlib.Omega.{arith}
-use Rattle.lexis.specs.Sizes.{maxBrackets}
-use Rattle.documents.proofs.BothStages.{list-directed, rules-stop, rules-pass}
 use borrow.Author.Needs.{needs}
 use Rattle.documents.proofs.stages.rules_stage.Statement.{statement}
 use Rattle.documents.proofs.stages.rules_stage.Tie as tie
 
-slice-aggregate-document-rules : tie.Need-slice-aggregate-document-rules
-slice-aggregate-document-rules c = search needs
+slice-aggregate-rules-by : tie.Need-slice-aggregate-rules-by
+slice-aggregate-rules-by c = search needs
 
-document-rules-requires : tie.Need-document-rules-requires
-document-rules-requires c κs =
-    let p = c .before .before .before .before .before .before .before .before .before .pre in
-    let r = p .1 .0 in (
-      p .0 .table,
-      (
-        r .table,
-        (
-          list-directed (p .0),
-          (
-            record { brackets = maxBrackets; tree = r .document; is = r .parsed },
-            ((r .small, p .1 .1 .0, p .1 .1 .1), record { size = 13312; zeros = refl; room = omega (arith, r .small) }),
-          ),
-        ),
-      ),
-    )
+rules-by-requires : tie.Need-rules-by-requires
+rules-by-requires c κs =
+    let p = c .before .before .before .before .before .before .before .before .before .before .pre in
+    let few = c .before .before .if1 .taken in
+    (p .0, (p .1 .0, (p .1 .1, record { size = 1792; zeros = refl; room = omega (arith, few) })))
 
 same-length : tie.Need-same-length
 same-length c = search needs
 
 returns : tie.Need-returns
-returns c =
-    let ruled = c .before .before .before .before .before .before in
-    let p = ruled .before .before .before .before .before .before .before .before .before .before .pre in
-    rules-stop (p .0) (p .1 .0) _ (ruled .document-rules .result) (ruled .document-rules .ensures) (c .if1 .taken)
+returns c = c .before .before .before .rules-by .ensures
+
+slice-aggregate-rules-by-2 : tie.Need-slice-aggregate-rules-by-2
+slice-aggregate-rules-by-2 c = search needs
+
+rules-by-requires-2 : tie.Need-rules-by-requires-2
+rules-by-requires-2 c κs =
+    let p = c .before .before .before .before .before .before .before .before .before .before .pre in
+    (p .0, (p .1 .0, (p .1 .1, record { size = 13312; zeros = refl; room = omega (arith, p .1 .0 .small) })))
 
 same-length-2 : tie.Need-same-length-2
 same-length-2 c = search needs
 
 returns-2 : tie.Need-returns-2
-returns-2 c =
-    let ruled = c .before .before .before .before .before .before in
-    let p = ruled .before .before .before .before .before .before .before .before .before .before .pre in
-    rules-pass (p .0) (p .1 .0) _ (ruled .document-rules .result) (ruled .document-rules .ensures) (c .if1 .left)
+returns-2 c = c .before .before .before .rules-by2 .ensures
 
 pub rules-stage-spec : {M : Type 1} → statement M
 rules-stage-spec =
     tie.close
     (tie.spec
-    slice-aggregate-document-rules
-    document-rules-requires
+    slice-aggregate-rules-by
+    rules-by-requires
     same-length
     returns
+    slice-aggregate-rules-by-2
+    rules-by-requires-2
     same-length-2
     returns-2)
