@@ -10,20 +10,21 @@ use lib.Dec.{eqb}
 use lib.ListN.{drop}
 use borrow.Author.Tests.{eq-eqb, ne-eqb, eqb-true, eqb-false}
 use Rattle.lexis.specs.Lexer.{Token}
-use Rattle.lexis.specs.Symbol.{symOf, leftRound, rightRound, equal, comma}
+use Rattle.lexis.specs.Symbol.{symOf, leftRound, rightRound, equal, comma, aName}
 use Rattle.syntax.specs.Tree.{Value, Values, Ty, Tys, Result}
 use Rattle.syntax.specs.Tree.Value.{tuple}
 use Rattle.syntax.specs.Tree.Values.{none, more}
-use Rattle.syntax.specs.Tree.Ty.{tupleOf}
+use Rattle.syntax.specs.Tree.Ty.{tensor, tupleOf}
 use Rattle.syntax.specs.Tree.Tys.{a-type}
 use Rattle.syntax.specs.Grammar.{Leaves, Separated, Spells, Items, IsType, IsResult, IsLeft}
 use Rattle.syntax.specs.Grammar.Leaves.{names}
 use Rattle.syntax.specs.Grammar.Separated.{last, next}
+use Rattle.syntax.specs.Grammar.Spells.{a-name, a-literal, an-empty-array, an-array, a-tuple}
 use Rattle.syntax.specs.Grammar.Items.{last-item, next-item}
 use Rattle.syntax.specs.Grammar.IsResult.{a-result}
 use Rattle.syntax.specs.Grammar.IsLeft.{one-pattern, a-bare-tuple}
 use Rattle.syntax.specs.Table.{toks}
-use Rattle.syntax.specs.Inner.{lookahead}
+use Rattle.syntax.specs.Inner.{lookahead, isLabel}
 use Rattle.syntax.proofs.Table.{toks-rest}
 use Rattle.lists.specs.Reading.{readAt, fits, typesOf, resultType}
 use Rattle.lists.specs.Types.{kindsOf, pairsOf, typeCode, several, resultCode}
@@ -33,7 +34,7 @@ use Rattle.lists.specs.Fitting.Several.{two-or-more}
 use Rattle.lists.proofs.Fits.{tuple-fits, each-few, each-more, flat-no}
 use Rattle.lists.proofs.Fits.Flat.{flat-tuple}
 use Rattle.lists.proofs.TypeTokens.{shape, base-of}
-use Rattle.lists.proofs.TypeCodes.{code-single}
+use Rattle.lists.proofs.TypeCodes.{code-single, only-tensor}
 use Rattle.lists.proofs.Phrases.{value-is, type-is}
 use Rattle.lists.proofs.Answers.{Seen, seen, look, literal-look, behind, fits-some, toks-lead}
 use Rattle.lists.proofs.Answers.Seen.{a-name-seen, a-literal-seen, an-array-seen, a-tuple-seen}
@@ -127,6 +128,26 @@ module _ (text table : List ℕ) (n i : ℕ) (u : Ty) (w : Bool) (whole : OfWhol
           fit-told text table n (fitsEach (more v vs) cs) us r (one names b (more v vs) us c cs ws (next-item g f x) k)
           ∙ (sym (tuple-fits t (more v vs) cs) ∙ ap (fits (tuple t (more v vs))) (sym q))
 
+-- ---- a left side that is one name
+
+pattern-label : {b : ℕ} {ts us : List Token} {v : Value} → Spells names b ts v us → isLabel ts ≡ (fits v tensor && eqb (lookahead us) equal)
+unfolding fits readAt
+pattern-label (a-name {t = t} h e) = simp (eq-eqb (symOf t) aName e)
+pattern-label (a-literal h e) = absurd (clash cc)
+pattern-label (an-empty-array {o = o} e f) = simp (ne-eqb (symOf o) aName (λ z. omega (arith, e, z)))
+pattern-label (an-array {o = o} e h) = simp (ne-eqb (symOf o) aName (λ z. omega (arith, e, z)))
+pattern-label (a-tuple {o = o} e h f i) = simp (ne-eqb (symOf o) aName (λ z. omega (arith, e, z)))
+
+-- only such a one matches tensor
+pub label-left : {b : ℕ} {ts us : List Token} {v : Value} → IsLeft b ts v us → isLabel ts ≡ fits v tensor
+unfolding fits readAt
+label-left h = go (sides h)
+  where
+    go : {b : ℕ} {ts us : List Token} {v : Value} → Sides b ts v us → isLabel ts ≡ fits v tensor
+    go (one-side {v = v} {e = e} g f) = pattern-label g ∙ and-is (fits v tensor) (eqb (symOf e) equal) (eq-eqb (symOf e) equal f)
+    go (bare-sides {c = c} {v = v} g f r) =
+        pattern-label g ∙ and-not (fits v tensor) (eqb (symOf c) equal) (ne-eqb (symOf c) equal (λ z. omega (arith, f, z)))
+
 -- ---- one value and its equals sign
 
 pub whole-value : (text table : List ℕ) (n i : ℕ) (ts : List Token) (kinds k r : ℕ) (x : Bool) → OfValue text table n i ts kinds k r
@@ -214,3 +235,8 @@ module _ (text table : List ℕ) (n j code : ℕ) where
   coded-one f (last h d) e = (shape (only-result text table n j h), e)
   coded-one f (next h d (last g q)) e = absurd (f e)
   coded-one f (next h d (next g q s)) e = absurd (f e)
+
+  pub coded-tensor : code ≡ typeCode tensor → {b : ℕ} {us : List Token} {rs : List Result} → Separated (IsResult b) rightRound (toks text table n j) rs us
+      → code ≡ resultCode rs
+      → resultType rs ≡ tensor
+  coded-tensor f r e = only-tensor _ (sym f ∙ coded-one (code-single tensor code f) r e .1)

@@ -1,4 +1,4 @@
--- A type's number and its parts: each is found again, and no type has the number of several results. Assumes nothing.
+-- A type's number and its parts: each is found again, no type has the number of several results, and only tensor that of tensor. Assumes nothing.
 use mathlib.Core.Path.{_≡_, refl, sym, ap, _∙_}
 use mathlib.Core.Bool.{Bool, true, false}
 use Prim.Native.Nat.{ℕ, _+_, _*_, _/_, _%_, _<_, _≤_}
@@ -8,7 +8,7 @@ use Rattle.syntax.specs.Tree.{Ty}
 use Rattle.syntax.specs.Tree.Ty.{tensor, extent, scalar, logical, string, arrayOf, tupleOf}
 use Rattle.lists.specs.Reading.{allTensor}
 use Rattle.lists.specs.Masks.{bit}
-use Rattle.lists.specs.Types.{kindsOf, pairsOf, typeCode, several}
+use Rattle.lists.specs.Types.{tensorKinds, kindsOf, pairsOf, typeCode, several}
 
 kinds-even : (u : Ty) → (kindsOf u < 64) × (kindsOf u % 2 ≡ 0)
 unfolding kindsOf
@@ -52,3 +52,25 @@ module _ (u : Ty) where
     pub code-single : code ≡ several → ⊥
     unfolding typeCode
     code-single e = let q = kinds-even u in omega (arith, q .1)
+
+-- ---- the type tensor
+
+pub tensor-code : typeCode tensor ≡ 558
+unfolding typeCode kindsOf allTensor pairsOf
+tensor-code = refl
+
+plain-tensor : (u : Ty) → kindsOf u ≡ tensorKinds → pairsOf u ≡ 0 → u ≡ tensor
+unfolding kindsOf pairsOf
+plain-tensor tensor p q = refl
+plain-tensor extent p q = absurd (omega (arith, p))
+plain-tensor scalar p q = absurd (omega (arith, p))
+plain-tensor logical p q = absurd (omega (arith, p))
+plain-tensor string p q = absurd (omega (arith, p))
+plain-tensor (arrayOf u) p q = absurd (omega (arith, q))
+plain-tensor (tupleOf us) p q = absurd (omega (arith, p))
+
+pub only-tensor : (u : Ty) → typeCode tensor ≡ typeCode u → u ≡ tensor
+unfolding kindsOf pairsOf
+only-tensor u h =
+    plain-tensor u (sym (code-kinds u (typeCode tensor) h) ∙ code-kinds tensor (typeCode tensor) refl)
+    (sym (code-pairs u (typeCode tensor) h) ∙ code-pairs tensor (typeCode tensor) refl)

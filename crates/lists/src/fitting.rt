@@ -1,12 +1,14 @@
 // Whether a value fits a type, and a left side the results of an operation. Value and type stand in two token tables.
 use crate::types::LeafKinds;
 use crate::types::SEVERAL;
+use crate::types::TENSOR;
 use crate::types::kinds_in;
 use crate::types::pairs_in;
 use crate::types::takes;
 use crate::types::type_of;
 use lexis::limits::Limits;
 use lexis::symbol::Symbol;
+use syntax::list::is_label;
 use syntax::symbol::symbol_at;
 ghost use mathlib.Core.Path.{_≡_};
 ghost use mathlib.Core.Bool.{true, false};
@@ -412,7 +414,7 @@ fn matches_several(
 }
 
 // Whether the left side at place `at` of a document matches the results at place `results` of an operation list. `code` is the number of
-// the only result's type, or `SEVERAL`.
+// the only result's type, or `SEVERAL`. Most operations have one result of type `tensor`, which only a name matches.
 pub fn matches(
     dtext: &[u8],
     dtable: &[u32],
@@ -428,6 +430,9 @@ pub fn matches(
     requires { ⌜ Holds (now ltext) (now ltable) ln ⌝ }
     ensures { λ r. ⌜ OfResults (now (dtext .entry)) (now (dtable .entry)) dn at (toks (now (ltext .entry)) (now (ltable .entry)) ln results) code r ⌝ }
 {
+    if code == TENSOR {
+        return is_label(dtext, dtable, dn, at);
+    }
     if ln <= results {
         return false;
     }

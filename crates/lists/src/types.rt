@@ -202,6 +202,9 @@ impl TypeAt {
 // In the place of a type's number: several results. No type has this number.
 pub const SEVERAL: u32 = 1;
 
+// The number of the type `tensor`.
+pub const TENSOR: u32 = LeafKinds::TENSOR + 512;
+
 // The parts of a type's number.
 pub fn kinds_in(code: u32) -> u32
     ensures { λ r. ⌜ ((u : Ty) → code ≡ typeCode u → r ≡ kindsOf u) ⌝ }

@@ -6,27 +6,42 @@ use Rattle.syntax.specs.Table.{toks}
 use Rattle.syntax.proofs.Table.{toks-none}
 use Rattle.lists.specs.Reading.{fits, typesOf}
 use Rattle.lists.proofs.Phrases.{left-is, results-are, columns}
-use Rattle.lists.proofs.Matching.{results-none, coded-several, coded-one, one-left}
+use Rattle.lists.proofs.TypeCodes.{tensor-code}
+use Rattle.lists.proofs.Matching.{label-left, results-none, coded-several, coded-one, coded-tensor, one-left}
 use Rattle.lists.proofs.fitting.matches.Statement.{statement}
 use Rattle.lists.proofs.fitting.matches.Tie as tie
 
+is-label-requires : tie.Need-is-label-requires
+is-label-requires c κs = search needs
+
 returns : tie.Need-returns
 returns c =
-    let a = c .before .before .before .before .before .args in
+    let a = c .before .before .before .before .before .before .args in
     let ltext = a .ltext .now in
     let ltable = a .ltable .now in
     let ln = a .ln in
-    let none = toks-none ltext ltable ln (a .results) (c .if1 .taken) in
+    λ b v us k rs ws f g e.
+    let r = results-are k (toks ltext ltable ln (a .results)) g in
+    let q = coded-tensor ltext ltable ln (a .results) (a .code) (c .before .if1 .taken ∙ sym tensor-code) r e in
+    c .is-label .ensures ∙ label-left (left-is b _ f) ∙ ap (fits v) (sym q)
+
+returns-2 : tie.Need-returns-2
+returns-2 c =
+    let a = c .before .before .before .before .before .before .args in
+    let ltext = a .ltext .now in
+    let ltable = a .ltable .now in
+    let ln = a .ln in
+    let none = toks-none ltext ltable ln (a .results) (c .if2 .taken) in
     λ b v us k rs ws f g e. absurd (results-none none (results-are k (toks ltext ltable ln (a .results)) g))
 
 matches-several-requires : tie.Need-matches-several-requires
 matches-several-requires c κs =
-    let s = c .before .before .before .before .before .before in
-    (s .pre .0, (s .pre .1, omega (arith, c .before .if1 .left)))
+    let s = c .before .before .before .before .before .before .before in
+    (s .pre .0, (s .pre .1, omega (arith, c .before .if2 .left)))
 
-returns-2 : tie.Need-returns-2
-returns-2 c =
-    let a = c .before .before .before .before .before .before .before .args in
+returns-3 : tie.Need-returns-3
+returns-3 c =
+    let a = c .before .before .before .before .before .before .before .before .args in
     let text = a .dtext .now in
     let table = a .dtable .now in
     let n = a .dn in
@@ -35,7 +50,7 @@ returns-2 c =
     let ln = a .ln in
     λ b v us k rs ws f g e.
     let r = results-are k (toks ltext ltable ln (a .results)) g in
-    let q = coded-several ltext ltable ln (a .results) (a .code) (c .before .if2 .taken) r e in
+    let q = coded-several ltext ltable ln (a .results) (a .code) (c .before .if3 .taken) r e in
     c .matches-several .ensures k (typesOf rs) ws (columns r) (q .0) b v us (left-is b (toks text table n (a .at)) f) ∙ ap (fits v) (sym (q .1))
 
 kinds-in-requires : tie.Need-kinds-in-requires
@@ -50,10 +65,10 @@ pairs-in-requires c κs = search needs
 matches-one-requires : tie.Need-matches-one-requires
 matches-one-requires c κs = search needs
 
-returns-3 : tie.Need-returns-3
-returns-3 c =
+returns-4 : tie.Need-returns-4
+returns-4 c =
     let at-kinds = c .before .before in
-    let a = at-kinds .before .before .before .before .before .before .before .args in
+    let a = at-kinds .before .before .before .before .before .before .before .before .args in
     let text = a .dtext .now in
     let table = a .dtable .now in
     let n = a .dn in
@@ -61,7 +76,7 @@ returns-3 c =
     let ltable = a .ltable .now in
     let ln = a .ln in
     λ b v us k rs ws f g e.
-    let q = coded-one ltext ltable ln (a .results) (a .code) (at-kinds .before .if2 .left) (results-are k (toks ltext ltable ln (a .results)) g) e in
+    let q = coded-one ltext ltable ln (a .results) (a .code) (at-kinds .before .if3 .left) (results-are k (toks ltext ltable ln (a .results)) g) e in
     let kinds = at-kinds .kinds-in in
     let pairs = c .before .pairs-in in
     one-left text table n (a .at) (toks ltext ltable ln (a .results + 2)) (kinds .result) (pairs .result) (c .matches-one .result) (c .matches-one .ensures)
@@ -71,11 +86,13 @@ pub matches-spec : {M : Type 1} → statement M
 matches-spec =
     tie.close
     (tie.spec
+    is-label-requires
     returns
-    matches-several-requires
     returns-2
+    matches-several-requires
+    returns-3
     kinds-in-requires
     add-matches-one
     pairs-in-requires
     matches-one-requires
-    returns-3)
+    returns-4)
