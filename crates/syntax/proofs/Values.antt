@@ -1,7 +1,7 @@
 -- What the readers of values answer at each of their ways out. Assumes nothing.
 use mathlib.Core.Path.{_≡_, refl, sym, ap, _∙_}
 use mathlib.Core.Bool.{Bool, true, false, cond, _&&_, _||_}
-use Prim.Native.Nat.{ℕ, zero, suc, _+_, _-_, _<_}
+use Prim.Native.Nat.{ℕ, zero, suc, _+_, _-_, _<_, _≤_}
 use native.Mathlib.Omega.{arith}
 use mathlib.Core.List.{List, [], _∷_}
 use lib.Dec.{eqb}
@@ -23,8 +23,8 @@ use Rattle.syntax.proofs.Shrinks.{value-shrinks}
 use Rattle.syntax.proofs.Tails.{expect-tails, value-tails}
 use Rattle.syntax.proofs.Table.{toks-rest}
 use Rattle.syntax.proofs.Chain.{clash, chain, mapped-same}
-use Rattle.syntax.proofs.Symbols.{begun, begins-look, stands, stands-by, one-more}
-use Rattle.syntax.proofs.Rows.{Sound}
+use Rattle.syntax.proofs.Symbols.{look-none, begun, begins-look, stands, stands-by, one-more}
+use Rattle.syntax.proofs.Rows.{Sound, row-fell}
 
 pub value-sound : (m : Leaves) (b : ℕ) → Sound (value m b)
 value-sound m b = record { small = value-shrinks m b; tails = value-tails m b }
@@ -201,3 +201,10 @@ module _ (text table : List ℕ) (e n i : ℕ) {s : ℕ} (sees : s ≡ lookahead
 
   pub open-stands : opens s ≡ true → i < n
   open-stands h = stands-by text table n i opens refl sees h
+
+-- no items stand at the end
+pub items-none : (text table : List ℕ) (n i : ℕ) → n ≤ i → (m : Leaves) (b close : ℕ) {r : Parsed} → r ≡ Fault 9 (placeOf (length text) (toks text table n i))
+    → r ≡ parsed (length text) n (row values (commas close) (value m b) (toks text table n i))
+items-none text table n i h m b close p =
+    row-fell values close (value-sound m b) (length text) n text table i
+    (at-not text table (length text) n i (look-none text table n i h) m b (no-leaf m) refl p) p

@@ -1,8 +1,9 @@
 -- What only the contracts of inner functions cite.
 use mathlib.Core.Bool.{Bool, true, cond, _&&_, _||_}
 use mathlib.Core.List.{List, [], _∷_}
-use Prim.Native.Nat.{ℕ, zero, suc}
-use lib.Dec.{eqb}
+use Prim.Native.Nat.{ℕ, zero, suc, _+_, _-_, _*_}
+use lib.Dec.{eqb, leb}
+use lib.ListN.{length}
 use Rattle.lexis.specs.Sizes.{maxBrackets}
 use Rattle.lexis.specs.Ascii.{ascii}
 use Rattle.lexis.specs.Words.{sameBytes}
@@ -13,6 +14,7 @@ use Rattle.syntax.specs.Tree.{Ty, Param, Result, Arg, Call}
 use Rattle.syntax.specs.Grammar.{Leaves, names, literals, both, takesNames, takesLiterals}
 use Rattle.syntax.specs.Parser.{Reader, then, expect, begins, rest, plain, commas, closed, row, tupleTypes, baseStep, type, param, result, argument, call}
 use Rattle.syntax.specs.Parser.Parse.{ok, bad}
+use Rattle.syntax.specs.Table.{toks, placeOf}
 use Rattle.syntax.specs.declared.Parsed.{Parsed}
 use Rattle.syntax.specs.declared.Parsed.the-variants.{Done, Fault}
 use Rattle.syntax.specs.declared.value.Leaves as L
@@ -37,6 +39,16 @@ lookahead (t ∷ ts) = symOf t
 abbrev pub onwards : Parsed → (ℕ → Parsed) → Parsed
 onwards (Done j) k = k j
 onwards (Fault c q) k = Fault c q
+
+-- ---- answers as numbers
+
+-- the answer over n tokens that the number r stands for: a place, which is at most n; a syntax fault, n + 1 more than its place; a bracket too many, twice
+-- n + 1 more than its place
+unfoldable pub reached : List ℕ → List ℕ → ℕ → ℕ → Parsed
+reached text table n r =
+    cond (leb r n) (Done r)
+    (cond (leb r (n + 1 + n)) (Fault 9 (placeOf (length text) (toks text table n (r - (n + 1)))))
+    (Fault 10 (placeOf (length text) (toks text table n (r - 2 * (n + 1))))))
 
 -- ---- values
 

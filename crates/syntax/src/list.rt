@@ -4,7 +4,7 @@ use crate::symbol::expect;
 use crate::symbol::symbol_at;
 use crate::types::type_at;
 use crate::value::Leaves;
-use crate::value::item_at;
+use crate::value::value;
 use lexis::limits::Limits;
 use lexis::symbol::Symbol;
 ghost use mathlib.Core.Path.{_≡_};
@@ -33,7 +33,7 @@ fn default(text: &[u8], table: &[u32], n: usize, at: usize) -> Parsed
     if symbol_at(text, table, n, at) != Symbol::EQUAL {
         return Parsed::Done(at);
     }
-    item_at(text, table, n, at + 1, Leaves::Literals, Limits::BRACKETS)
+    value(text, table, n, at + 1, Leaves::Literals, Limits::BRACKETS)
 }
 
 // A name, a colon and a type.
@@ -78,9 +78,9 @@ fn argument(text: &[u8], table: &[u32], n: usize, at: usize) -> Parsed
     ensures { λ r. ⌜ r ≡ parsed (length (now (text .entry))) n (argument maxBrackets (toks (now (text .entry)) (now (table .entry)) n at)) ⌝ }
 {
     if is_label(text, table, n, at) {
-        return item_at(text, table, n, at + 2, Leaves::Both, Limits::BRACKETS);
+        return value(text, table, n, at + 2, Leaves::Both, Limits::BRACKETS);
     }
-    item_at(text, table, n, at, Leaves::Both, Limits::BRACKETS)
+    value(text, table, n, at, Leaves::Both, Limits::BRACKETS)
 }
 
 // One item of a list.

@@ -10,31 +10,31 @@ use Rattle.syntax.proofs.list.argument.Tie as tie
 is-label-requires : tie.Need-is-label-requires
 is-label-requires c κs = search needs
 
-add-item-at : tie.Need-add-item-at
-add-item-at c =
+add-value : tie.Need-add-value
+add-value c =
     let a = c .before .before .before .before .args in
     let h = label-stands (a .text .now) (a .table .now) (a .n) (a .at) (sym (c .before .is-label .ensures) ∙ c .if1 .taken) in
     search needs
 
-item-at-requires : tie.Need-item-at-requires
-item-at-requires c κs = search needs
+value-requires : tie.Need-value-requires
+value-requires c κs = search needs
 
 returns : tie.Need-returns
 returns c =
     let a = c .before .before .before .before .before .args in
     at-label (a .text .now) (a .table .now) (a .n) (a .at) (length (a .text .now)) maxBrackets
-    (sym (c .before .before .is-label .ensures) ∙ c .before .if1 .taken) (c .item-at .ensures)
+    (sym (c .before .before .is-label .ensures) ∙ c .before .if1 .taken) (c .value .ensures)
 
-item-at-requires-2 : tie.Need-item-at-requires-2
-item-at-requires-2 c κs = search needs
+value-requires-2 : tie.Need-value-requires-2
+value-requires-2 c κs = search needs
 
 returns-2 : tie.Need-returns-2
 returns-2 c =
     let a = c .before .before .before .before .before .args in
     at-other (a .text .now) (a .table .now) (a .n) (a .at) (length (a .text .now)) maxBrackets
-    (sym (c .before .before .is-label .ensures) ∙ c .before .if1 .left) (c .item-at2 .ensures)
+    (sym (c .before .before .is-label .ensures) ∙ c .before .if1 .left) (c .value2 .ensures)
 
 pub argument-spec : {M : Type 1} → statement M
 argument-spec =
     tie.close
-    (tie.spec is-label-requires add-item-at item-at-requires returns item-at-requires-2 returns-2)
+    (tie.spec is-label-requires add-value value-requires returns value-requires-2 returns-2)

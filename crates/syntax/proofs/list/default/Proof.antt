@@ -17,20 +17,20 @@ returns c =
     at-none (a .text .now) (a .table .now) (a .n) (a .at) (c .before .symbol-at .ensures) (length (a .text .now)) maxBrackets
     (c .before .before .before .before .pre .1) (c .if1 .taken)
 
-add-item-at : tie.Need-add-item-at
-add-item-at c =
+add-value : tie.Need-add-value
+add-value c =
     let a = c .before .before .before .before .args in
     let h = stands (a .text .now) (a .table .now) (a .n) (a .at) (c .before .symbol-at .ensures) (omega (arith, c .if1 .left)) in
     search needs
 
-item-at-requires : tie.Need-item-at-requires
-item-at-requires c κs = search needs
+value-requires : tie.Need-value-requires
+value-requires c κs = search needs
 
 returns-2 : tie.Need-returns-2
 returns-2 c =
     let a = c .before .before .before .before .before .args in
     at-default (a .text .now) (a .table .now) (a .n) (a .at) (c .before .before .symbol-at .ensures) (length (a .text .now)) maxBrackets (c .before .if1 .left)
-    (c .item-at .ensures)
+    (c .value .ensures)
 
 pub default-spec : {M : Type 1} → statement M
-default-spec = tie.close (tie.spec symbol-at-requires returns add-item-at item-at-requires returns-2)
+default-spec = tie.close (tie.spec symbol-at-requires returns add-value value-requires returns-2)

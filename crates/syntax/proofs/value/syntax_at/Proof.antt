@@ -1,0 +1,17 @@
+-- `value::syntax_at` meets its contract. Assumes nothing.
+use Rattle.syntax.proofs.Reached.{syntax-at}
+use borrow.Author.Needs.{needs}
+use Rattle.syntax.proofs.value.syntax_at.Statement.{statement}
+use Rattle.syntax.proofs.value.syntax_at.Tie as tie
+
+add-result : tie.Need-add-result
+add-result c = search needs
+
+add-result-2 : tie.Need-add-result-2
+add-result-2 c = search needs
+
+returns : tie.Need-returns
+returns c = syntax-at (c .args .text .now) (c .args .table .now) (c .args .n) (c .args .at) (c .pre .1)
+
+pub syntax-at-spec : {M : Type 1} → statement M
+syntax-at-spec = tie.close (tie.spec add-result add-result-2 returns)
