@@ -1,6 +1,6 @@
 -- One name of a walk that keeps the earliest fault of a rule and counts: a token that is no name, and one that is. Then the index of names with one
 -- name more. Relies on `Entries` for the numbers of names.
-use Prim.Native.Nat.{ℕ, zero, suc, _+_, _-_, _<_}
+use Prim.Native.Nat.{ℕ, zero, suc, _+_, _<_}
 use mathlib.Core.Path.{_≡_, refl, sym, ap, ap₂, subst, _∙_}
 use mathlib.Core.Bool.{Bool, true, false, cond, not}
 use mathlib.Core.List.{List, [], _∷_, _++_, append-assoc, append-nil}

@@ -1,7 +1,6 @@
 -- What only the contracts behind codes 16 to 19 cite: flags of parameters as the bits of a word, how a parameter is sought, and what
 -- the arguments before a place amount to.
-use mathlib.Core.Path.{_≡_}
-use Prim.Native.Nat.{ℕ, suc, _<_, _≤_}
+use Prim.Native.Nat.{ℕ, suc}
 use mathlib.Core.Bool.{Bool, true, false, cond, not, _&&_}
 use mathlib.Core.List.{List, [], _∷_, map, flatten}
 use mathlib.Core.Option.{Option, some}

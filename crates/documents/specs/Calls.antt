@@ -1,7 +1,7 @@
 -- Calls in a body, which the contracts of the walks over it cite: calls in a row, and the places of a call's parts.
 use mathlib.Core.Path.{_≡_}
 use mathlib.Core.List.{List, [], _∷_}
-use Prim.Native.Nat.{ℕ, _+_, _<_, _≤_}
+use Prim.Native.Nat.{ℕ, _+_, _<_}
 use Rattle.lexis.specs.Lexer.{Token}
 use Rattle.lexis.specs.Symbol.{rightRound}
 use Rattle.syntax.specs.Tree.{Arg, Call}

@@ -137,7 +137,16 @@ fn both_answer(
     }
     let mut lindex = [0u16; Room::INDEX];
     let mut words = [0u32; Room::WORDS];
-    answer_by(&mut lindex, &mut words, list, doc, work1, work2, calls, wires)
+    answer_by(
+        &mut lindex,
+        &mut words,
+        list,
+        doc,
+        work1,
+        work2,
+        calls,
+        wires,
+    )
 }
 
 // The operation: after acceptance the call table has a record for each call, the wire table one for each use. After any answer but a

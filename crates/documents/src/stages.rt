@@ -59,18 +59,7 @@ fn rules_by(
     ensures { λ r. ⌜ BothDone (now (list .entry)) (now (doc .entry)) (now (work1 .entry)) (now (work2 .entry)) (now (lindex .entry)) (now (words .entry))
         (now (records .exit)) r ⌝ }
 {
-    let ruled = document_rules(
-        list,
-        work1,
-        n,
-        lindex,
-        words,
-        doc,
-        work2,
-        m,
-        index,
-        records,
-    );
+    let ruled = document_rules(list, work1, n, lindex, words, doc, work2, m, index, records);
     let best = ruled.best;
     if best.code != lexis::code::Code::ACCEPTED {
         return Staged::Stopped(Answer {
@@ -110,10 +99,34 @@ fn rules_stage(
 {
     if m <= FEW {
         let mut short = [0u16; SHORT_INDEX];
-        return rules_by(&mut short, list, work1, n, lindex, words, k, doc, work2, m, records);
+        return rules_by(
+            &mut short,
+            list,
+            work1,
+            n,
+            lindex,
+            words,
+            k,
+            doc,
+            work2,
+            m,
+            records,
+        );
     }
     let mut index = [0u16; Layout::WORDS];
-    rules_by(&mut index, list, work1, n, lindex, words, k, doc, work2, m, records)
+    rules_by(
+        &mut index,
+        list,
+        work1,
+        n,
+        lindex,
+        words,
+        k,
+        doc,
+        work2,
+        m,
+        records,
+    )
 }
 
 // The stages of a document under a list that has passed its own.

@@ -2,7 +2,7 @@
 -- the table and the faults of bytes and syntax, on `RowFaults` and `NameMarks` for what the walk over the headers comes to.
 use mathlib.Core.Path.{_≡_, refl, sym, ap, ap₂, subst, _∙_}
 use mathlib.Core.Bool.{true}
-use mathlib.Core.List.{List, [], _++_}
+use mathlib.Core.List.{List, []}
 use mathlib.Core.Option.{Option, some}
 use mathlib.Core.Option.{none as nothing}
 use Prim.Native.Nat.{_/_, ℕ, _+_, _*_, _≤_, min}

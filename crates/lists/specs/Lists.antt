@@ -1,6 +1,5 @@
 -- What only inner contracts of lists and documents cite: the faults of one header by itself, and the look-up of a name.
-use Prim.Native.Nat.{ℕ, suc, _-_, _<_, _≤_}
-use mathlib.Core.Path.{_≡_}
+use Prim.Native.Nat.{ℕ, suc}
 use mathlib.Core.Bool.{cond}
 use mathlib.Core.List.{List, [], _∷_, map, flatMap, flatten}
 use Rattle.lexis.specs.Sizes.{maxParameters, maxResults}

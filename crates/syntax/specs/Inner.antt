@@ -5,11 +5,10 @@ use Prim.Native.Nat.{ℕ, zero, suc, _+_, _-_, _*_}
 use lib.Dec.{eqb, leb}
 use lib.ListN.{length}
 use Rattle.lexis.specs.Sizes.{maxBrackets}
-use Rattle.lexis.specs.Ascii.{ascii}
-use Rattle.lexis.specs.Words.{sameBytes}
 use Rattle.lexis.specs.Lexer.{Token}
 use Rattle.lexis.specs.Symbol.{symOf, isLiteral, leftRound, rightRound, leftSquare, leftCurly, rightCurly, equal, semicolon, arrow, aName, aNumber, version}
 use Rattle.lexis.specs.Symbol.{graph, tensorWord, extentWord, scalarWord, logicalWord, stringWord}
+use Rattle.syntax.specs.Code as Code
 use Rattle.syntax.specs.Tree.{Ty, Param, Result, Arg, Call}
 use Rattle.syntax.specs.Grammar.{Leaves, names, literals, both, takesNames, takesLiterals}
 use Rattle.syntax.specs.Parser.{Reader, then, expect, begins, rest, plain, commas, closed, row, tupleTypes, baseStep, type, param, result, argument, call}
@@ -47,8 +46,8 @@ onwards (Fault c q) k = Fault c q
 unfoldable pub reached : List ℕ → List ℕ → ℕ → ℕ → Parsed
 reached text table n r =
     cond (leb r n) (Done r)
-    (cond (leb r (n + 1 + n)) (Fault 9 (placeOf (length text) (toks text table n (r - (n + 1)))))
-    (Fault 10 (placeOf (length text) (toks text table n (r - 2 * (n + 1))))))
+    (cond (leb r (n + 1 + n)) (Fault Code.syntax (placeOf (length text) (toks text table n (r - (n + 1)))))
+    (Fault Code.bracket (placeOf (length text) (toks text table n (r - 2 * (n + 1))))))
 
 -- ---- values
 
@@ -74,7 +73,7 @@ isTypeWord s = cond (eqb s tensorWord) true (cond (eqb s extentWord) true (cond 
 
 -- a type without its pairs of square brackets
 unfoldable pub baseOf : ℕ → Reader Ty
-baseOf zero ts = baseStep (λ t us. bad 10 (t ∷ us)) ts
+baseOf zero ts = baseStep (λ t us. bad Code.bracket (t ∷ us)) ts
 baseOf (suc b) ts = baseStep (λ t us. tupleTypes (type b) us) ts
 
 -- ---- lists

@@ -7,6 +7,7 @@ use lexis::symbol::Symbol;
 ghost use mathlib.Core.Path.{_≡_};
 ghost use Prim.Native.Nat.{_<_, _≤_};
 ghost use lib.ListN.{length};
+ghost use Rattle.syntax.specs.Code as Code;
 ghost use Rattle.syntax.specs.Grammar.{takesNames, takesLiterals};
 ghost use Rattle.syntax.specs.declared.Parsed.the-variants.{Fault};
 ghost use Rattle.syntax.specs.Parser.{expect, value, values, commas, arrayItems, tupleItems, row};
@@ -70,7 +71,7 @@ fn opens_value(s: u32) -> bool
 fn syntax_at(text: &[u8], table: &[u32], n: usize, at: usize) -> usize
     requires { ⌜ Holds (now text) (now table) n ⌝ }
     requires { ⌜ at ≤ n ⌝ }
-    ensures { λ r. ⌜ reached (now (text .entry)) (now (table .entry)) n r ≡ Fault 9
+    ensures { λ r. ⌜ reached (now (text .entry)) (now (table .entry)) n r ≡ Fault Code.syntax
         (placeOf (length (now (text .entry))) (toks (now (text .entry)) (now (table .entry)) n at)) ⌝ }
 {
     n + 1 + at
@@ -80,7 +81,7 @@ fn syntax_at(text: &[u8], table: &[u32], n: usize, at: usize) -> usize
 fn bracket_at(text: &[u8], table: &[u32], n: usize, at: usize) -> usize
     requires { ⌜ Holds (now text) (now table) n ⌝ }
     requires { ⌜ at ≤ n ⌝ }
-    ensures { λ r. ⌜ reached (now (text .entry)) (now (table .entry)) n r ≡ Fault 10
+    ensures { λ r. ⌜ reached (now (text .entry)) (now (table .entry)) n r ≡ Fault Code.bracket
         (placeOf (length (now (text .entry))) (toks (now (text .entry)) (now (table .entry)) n at)) ⌝ }
 {
     2 * (n + 1) + at

@@ -1,5 +1,4 @@
 -- The name, `=`, and the value.
-use mathlib.Core.Path.{_∙_}
 use native.Mathlib.Omega.{arith}
 use Rattle.canonical.proofs.ArgumentPuts.{argument-put}
 use borrow.Author.Needs.{needs}

@@ -1,5 +1,5 @@
 -- The value that is bound, or the default, read at the parameter's type.
-use mathlib.Core.Path.{_≡_, ap, _∙_}
+use mathlib.Core.Path.{ap, _∙_}
 use Prim.Native.Nat.{ℕ, _+_}
 use native.Mathlib.Omega.{arith}
 use Rattle.lexis.specs.Sizes.{maxBrackets}

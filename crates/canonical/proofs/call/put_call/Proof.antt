@@ -1,5 +1,5 @@
 -- The parts of a call under its header, one after the other.
-use mathlib.Core.Path.{_≡_, refl, _∙_}
+use mathlib.Core.Path.{refl, _∙_}
 use native.Mathlib.Omega.{arith}
 use Rattle.lexis.specs.Kind as Kind
 use Rattle.lists.specs.Reading.{resultType}

@@ -1,6 +1,6 @@
 use Rattle.documents.proofs.Scanning.{past-semicolon, no-semicolon}
 use Rattle.syntax.specs.Table.{toks}
-use Prim.Native.Nat.{_+_, _-_}
+use Prim.Native.Nat.{_+_}
 use borrow.Author.Needs.{needs}
 use Rattle.documents.proofs.calls.after_call.Statement.{statement}
 use Rattle.documents.proofs.calls.after_call.Tie as tie

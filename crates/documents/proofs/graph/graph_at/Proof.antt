@@ -1,5 +1,5 @@
 use Rattle.documents.proofs.Documents.{FoundGraph, graph-is}
-use Prim.Native.Nat.{_+_, _-_}
+use Prim.Native.Nat.{_+_}
 use mathlib.Core.Path.{refl}
 use native.Mathlib.Omega.{arith}
 use borrow.Author.Needs.{needs}

@@ -1,6 +1,5 @@
 use Rattle.lists.proofs.Parts.{holds-part}
 use Rattle.documents.proofs.Walking.{no-use, use-if}
-use Prim.Native.Nat.{_-_}
 use borrow.Author.Needs.{needs}
 use Rattle.documents.proofs.wiring.is_use.Statement.{statement}
 use Rattle.documents.proofs.wiring.is_use.Tie as tie

@@ -1,5 +1,4 @@
 use native.Mathlib.Omega.{arith}
-use mathlib.Core.Path.{_≡_, _∙_}
 use borrow.Author.Needs.{needs}
 use Rattle.lists.proofs.word.word.Statement.{statement}
 use Rattle.lists.proofs.word.word.Tie as tie

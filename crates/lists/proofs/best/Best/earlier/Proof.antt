@@ -1,7 +1,7 @@
 use Rattle.lists.proofs.First.{earlier-none}
 use Rattle.lists.specs.Best.{meant}
 use borrow.Author.Tests.{eq-eqb, ne-eqb}
-use mathlib.Core.Path.{_≡_, sym, _∙_}
+use mathlib.Core.Path.{sym}
 use borrow.Author.Needs.{needs}
 use Rattle.lists.proofs.best.Best.earlier.Statement.{statement}
 use Rattle.lists.proofs.best.Best.earlier.Tie as tie

@@ -1,7 +1,6 @@
 use Rattle.lists.proofs.Bests.{no-fault, one-fault}
 use Rattle.lists.specs.Fault.{fault}
 use Rattle.lists.specs.Best.{meant}
-use Prim.Native.Nat.{_-_}
 use mathlib.Core.Path.{ap, _∙_}
 use borrow.Author.Needs.{needs}
 use Rattle.lists.proofs.best.Best.fault_if.Statement.{statement}
