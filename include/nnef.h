@@ -65,7 +65,7 @@ extern "C" {
 #define NNEF_TOKENS_STACK 53248
 #define NNEF_DECLARATIONS_STACK 49152
 #define NNEF_CHECK_STACK 86016
-#define NNEF_CANON_STACK 122880
+#define NNEF_CANON_STACK 106496
 
 /* What an operation answers with. */
 typedef struct nnef_answer {

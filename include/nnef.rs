@@ -38,7 +38,7 @@ pub const WIRE_WORDS: usize = 2_048;
 pub const TOKENS_STACK: usize = 53_248;
 pub const DECLARATIONS_STACK: usize = 49_152;
 pub const CHECK_STACK: usize = 86_016;
-pub const CANON_STACK: usize = 122_880;
+pub const CANON_STACK: usize = 106_496;
 
 // Codes.
 pub const ACCEPTED: u32 = 0;
