@@ -39,7 +39,7 @@ use Rattle.canonical.specs.Pieces.{Piece, text}
 use Rattle.canonical.specs.Layout.{documentPieces}
 use Rattle.canonical.specs.Answer.{laidOut, layoutOf, writingStages, textStages, CanonRoom, canonRoom, canonServes, written, canonAnswer, outputAfter}
 use Rattle.canonical.specs.Writing.{stored, placeAfter, keepsLimits, PutsAll, all-put, left-over, Ranged, Wrote}
-use Rattle.canonical.specs.Writing.{Recorded, ReadableOps, PutsDocument, TextsKept}
+use Rattle.canonical.specs.Writing.{CallsRecorded, ReadableOps, PutsDocument, TextsKept}
 use Rattle.canonical.specs.declared.place.Place.{Place}
 use Rattle.canonical.proofs.Putting.{stored-length}
 use Rattle.canonical.proofs.Measures.{passed-is, stored-is, stored-front, limits-kept, ranged}
@@ -136,7 +136,7 @@ module _ {list doc work₁ work₂ words records : List ℕ} {z : Sizes} (b : Te
       ∙ ap (λ (o : Option Plan). writingStages (laidOut headers o) out) (plan .1)
 
   -- what putting it asks and ensures
-  recorded : Recorded list work₁ words records z headers (tree .calls)
+  recorded : CallsRecorded list work₁ words records z headers (tree .calls)
   unfolding callTable
   recorded = record { operations = listed .directory; clean = list-faultless; counted = b .both .kept .counted; called = b .both .kept .called }
 

@@ -20,7 +20,7 @@ use Rattle.syntax.specs.Grammar.{IsTypeName}
 use Rattle.syntax.specs.Parser.{rest}
 use Rattle.syntax.specs.Inner.{lookahead}
 use Rattle.lists.specs.Reading.{Val, Vals, vArray, vTuple, a-val, bind, readAt, readAll, readEach, fits}
-use Rattle.lists.specs.Fitting.{isLeaf, stacked, IsBase, Columns}
+use Rattle.lists.specs.Fitting.{isLeafSymbol, stacked, IsBase, Columns}
 use Rattle.lists.specs.Fitting.IsBase.{a-word, a-tuple-base}
 use Rattle.lists.proofs.Leaves.{LeafKind, leaf-kind}
 use Rattle.lists.proofs.Leaves.LeafKind.{whole-kind, real-kind, string-kind, truth-kind}
@@ -113,7 +113,7 @@ leaf-word (suc k) t h e = absurd (none-or-none (eqb (t .kind) Kind.name) e)
 
 -- a token that is seen as a name is one, and one that is seen as a literal is none
 name-kind : (t : Token) → getD (t .bytes) 0 0 < 256 → symOf t ≡ aName → eqb (t .kind) Kind.name ≡ true
-name-kind t l e = go (leaf-kind t l (ap isLeaf e)) e
+name-kind t l e = go (leaf-kind t l (ap isLeafSymbol e)) e
   where
     go : {k s : ℕ} → LeafKind k s → s ≡ aName → eqb k Kind.name ≡ true
     go is-name z = refl

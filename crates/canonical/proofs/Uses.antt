@@ -13,7 +13,7 @@ use Rattle.syntax.specs.Tree.Arg.{positional, named}
 use Rattle.lists.specs.Names.{namesIn, valueOf, repeats}
 use Rattle.lists.specs.Reading.{Val, readAt, allTensor}
 use Rattle.lists.specs.ListRules.{paramNames}
-use Rattle.documents.specs.Arguments.{Indexed, seek}
+use Rattle.documents.specs.Arguments.{SoughtParam, seek}
 use Rattle.documents.specs.Binding.{Slot, leading, byPlace, later, byName, orElse, slotsFrom, slots}
 use Rattle.documents.proofs.Sought.{None, Only, ofName, seek-none, seek-only}
 use Rattle.documents.proofs.Sought.None.{nil, cons}
@@ -106,7 +106,7 @@ module _ (g : List ℕ → Bool) where
       → sizeNamed ps (named t v ∷ xs) ≤ size v + sizeNamed ps xs
   named-size t v xs ps d = go (seek (ofName t) 0 ps) refl
     where
-      go : (o : Option Indexed) → seek (ofName t) 0 ps ≡ o → sizeNamed ps (named t v ∷ xs) ≤ size v + sizeNamed ps xs
+      go : (o : Option SoughtParam) → seek (ofName t) 0 ps ≡ o → sizeNamed ps (named t v ∷ xs) ≤ size v + sizeNamed ps xs
       go nothing e = omega (arith, named-none t v xs (seek-none t 0 ps e))
       go (some s) e = named-only t v xs (seek-only t ps s d e)
 

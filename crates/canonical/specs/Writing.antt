@@ -131,14 +131,14 @@ pub record AreDigits (w : List ℕ) : Type 0 where
 -- ---- values
 
 -- a token of kind k and bytes w is as the lexer has it: a number is in range and not too long, and a whole one has digits alone
-pub record Lexed (k : ℕ) (w : List ℕ) : Type 0 where
+pub record AsLexed (k : ℕ) (w : List ℕ) : Type 0 where
   pub number : isNumber k ≡ true → (inRange w (partsOf w) ≡ true) × (length w ≤ maxNumber)
   pub whole : k ≡ Kind.whole → AreDigits w
 
 -- the class table is at hand, and every token of a table is as the lexer has it
 pub record Ranged (classes text table : List ℕ) (n : ℕ) : Type 0 where
   pub classed : classes ≡ classTable
-  pub within : (i : ℕ) → i < n → Lexed (kindAt table i) (tokenAt text table i .bytes)
+  pub within : (i : ℕ) → i < n → AsLexed (kindAt table i) (tokenAt text table i .bytes)
 
 -- the value of a leaf at a type
 abbrev pub leafAt : Ty → Token → Option Val
@@ -269,7 +269,7 @@ PutsCall ltext ltable words ln k dtext dtable dn i out out' s r =
     → Puts (callPieces hs p) out out' s (r .place) × (us ≡ toks dtext dtable dn (r .next))
 
 -- the headers hs stand in the directory without faults, and the records of the calls cs name their operations
-pub record Recorded (ltext ltable words records : List ℕ) (z : Sizes) (hs : List Header) (cs : List Call) : Type 0 where
+pub record CallsRecorded (ltext ltable words records : List ℕ) (z : Sizes) (hs : List Header) (cs : List Call) : Type 0 where
   pub operations : OperationsAt ltext ltable words (z .list) 0 hs
   pub clean : first (listFaults hs) ≡ nothing
   pub counted : z .calls ≡ length cs
@@ -278,14 +278,14 @@ pub record Recorded (ltext ltable words records : List ℕ) (z : Sizes) (hs : Li
 -- the calls from place i on were put, up to the limits
 abbrev pub PutsCalls : List ℕ → List ℕ → List ℕ → List ℕ → List ℕ → List ℕ → Sizes → ℕ → List ℕ → List ℕ → Place → Place → Type 0
 PutsCalls ltext ltable words records dtext dtable z i out out' s r =
-    (hs : List Header) (cs : List Call) (us : List Token) (ps : List PlanCall) → Recorded ltext ltable words records z hs cs
+    (hs : List Header) (cs : List Call) (us : List Token) (ps : List PlanCall) → CallsRecorded ltext ltable words records z hs cs
     → Calls maxBrackets (toks dtext dtable (z .document) i) cs us → flatMap (argumentFaults hs) cs ≡ [] → planCalls hs cs ≡ some ps
     → PutsWithin (callsPieces hs ps) out out' s r
 
 -- the whole document was put, up to the limits
 abbrev pub PutsDocument : List ℕ → List ℕ → List ℕ → List ℕ → List ℕ → List ℕ → Sizes → List ℕ → List ℕ → Place → Type 0
 PutsDocument ltext ltable words records dtext dtable z out out' r =
-    (hs : List Header) (d : Document) (p : Plan) → Recorded ltext ltable words records z hs (d .calls)
+    (hs : List Header) (d : Document) (p : Plan) → CallsRecorded ltext ltable words records z hs (d .calls)
     → parseDocument (toks dtext dtable (z .document) 0) ≡ ok d [] → documentFaults hs d ≡ [] → planOf hs d ≡ some p
     → PutsAll (documentPieces hs p) out out' r
 

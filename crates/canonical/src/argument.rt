@@ -22,7 +22,7 @@ ghost use lib.ListN.{length};
 ghost use Rattle.lexis.specs.Sizes.{maxTokens, maxParameters};
 ghost use Rattle.syntax.specs.Table.{Holds};
 ghost use Rattle.lists.specs.Directory.{firstParameter, parameterWords, parameterWord};
-ghost use Rattle.documents.specs.Tallies.{Recorded, NamesBelow};
+ghost use Rattle.documents.specs.Tallies.{ParamsRecorded, NamesBelow};
 ghost use Rattle.canonical.specs.Writing.{slotSet, Aims, BindsAll, Ranged, PutsBound, PutsArgument, PutsSlots, PutsArguments};
 
 // A number as it is stored.
@@ -59,7 +59,7 @@ fn aim_of(
 ) -> Aim
     requires { ⌜ Holds (now dtext) (now dtable) dn ⌝ }
     requires { ⌜ Holds (now ltext) (now ltable) ln ⌝ }
-    requires { ⌜ Recorded (now words) o ⌝ }
+    requires { ⌜ ParamsRecorded (now words) o ⌝ }
     requires { ⌜ NamesBelow (now words) ln o ⌝ }
     requires { ⌜ w .at ≤ dn ⌝ }
     ensures range { λ r. ⌜ (w .at ≤ r .value) × (r .value ≤ dn + 1) × (r .number ≤ w .index + o .count) ⌝ }
@@ -105,7 +105,7 @@ fn bind_all(
 ) -> usize
     requires { ⌜ Holds (now dtext) (now dtable) dn ⌝ }
     requires { ⌜ Holds (now ltext) (now ltable) ln ⌝ }
-    requires { ⌜ Recorded (now words) o ⌝ }
+    requires { ⌜ ParamsRecorded (now words) o ⌝ }
     requires { ⌜ NamesBelow (now words) ln o ⌝ }
     requires { ⌜ (0 < at) × (at ≤ dn) × (dn ≤ maxTokens) × (maxParameters ≤ length (now slots)) ⌝ }
     ensures range { λ r. ⌜ (min (at + 1) dn ≤ r) × (r ≤ dn) ⌝ }
@@ -250,7 +250,7 @@ fn put_slots(
     requires { ⌜ Ranged (now classes) (now dtext) (now dtable) dn ⌝ }
     requires { ⌜ Holds (now ltext) (now ltable) ln ⌝ }
     requires { ⌜ Ranged (now classes) (now ltext) (now ltable) ln ⌝ }
-    requires { ⌜ Recorded (now words) o ⌝ }
+    requires { ⌜ ParamsRecorded (now words) o ⌝ }
     requires { ⌜ NamesBelow (now words) ln o ⌝ }
     requires { ⌜ maxParameters ≤ length (now slots) ⌝ }
     ensures { λ r. ⌜ PutsSlots (now (dtext .entry)) (now (dtable .entry)) dn (now (slots .entry)) (now (ltext .entry)) (now (ltable .entry))
@@ -309,7 +309,7 @@ pub fn put_arguments(
     requires { ⌜ Ranged (now classes) (now dtext) (now dtable) dn ⌝ }
     requires { ⌜ Holds (now ltext) (now ltable) ln ⌝ }
     requires { ⌜ Ranged (now classes) (now ltext) (now ltable) ln ⌝ }
-    requires { ⌜ Recorded (now words) o ⌝ }
+    requires { ⌜ ParamsRecorded (now words) o ⌝ }
     requires { ⌜ NamesBelow (now words) ln o ⌝ }
     requires { ⌜ (0 < at) × (at ≤ dn) × (dn ≤ maxTokens) ⌝ }
     ensures range { λ r. ⌜ (min (at + 1) dn ≤ r .close) × (r .close ≤ dn) ⌝ }

@@ -29,7 +29,7 @@ ghost use Rattle.syntax.specs.Table.{tokenAt, toks, Holds};
 ghost use Rattle.lists.specs.Reading.{Val, readAt};
 ghost use Rattle.lists.specs.Types.{pairsOf};
 ghost use Rattle.canonical.specs.Layout.{pieces};
-ghost use Rattle.canonical.specs.Writing.{Puts, Lexed, Ranged, leafAt, Opens, PutsValue, PutsArray, PutsTuple};
+ghost use Rattle.canonical.specs.Writing.{Puts, AsLexed, Ranged, leafAt, Opens, PutsValue, PutsArray, PutsTuple};
 
 // The kinds of leaf, as words of a token record.
 const NAME: u32 = Kind::NAME as u32;
@@ -54,7 +54,7 @@ fn put_spelt(
     at: u32,
 ) -> Place
     requires { ⌜ now classes ≡ classTable ⌝ }
-    requires { ⌜ Lexed kind (now word) ⌝ }
+    requires { ⌜ AsLexed kind (now word) ⌝ }
     ensures { λ r. ⌜
         ((t : Token) (u : Ty) (w : Val) → t .kind ≡ kind → t .bytes ≡ now (word .entry) → IsTypeName at u → leafAt u t ≡ some w
         → Puts (pieces w) (now (out .entry)) (now (out .exit)) s r)

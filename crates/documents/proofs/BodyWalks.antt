@@ -34,7 +34,7 @@ use Rattle.documents.specs.Walks.{assigning, consuming, Turn, callFaults
 use Rattle.documents.specs.Naming.{Entry, numbered, headed, assignersFrom, assigners, Naming}
 use Rattle.documents.specs.Operations.{operationFaults}
 use Rattle.documents.specs.Judged.{Judges}
-use Rattle.documents.specs.Records.{recordsWords, callStored, wiresStored, Recorded}
+use Rattle.documents.specs.Records.{recordsWords, callStored, wiresStored, TablesRecorded}
 use Rattle.documents.specs.NameWalks.{Assigns, Uses}
 use Rattle.documents.specs.Graphs.{LeftSide, Walked, Stepped, Body}
 use Rattle.documents.specs.declared.body.Walk.{Walk}
@@ -173,7 +173,7 @@ module _ (text table index after records wired stored : List ℕ) (n equal : ℕ
     not-full true x e = let y : _≡_ {A = ℕ} 0 1 = cc in absurd (omega arith)
     not-full false x e = refl
 
-    recorded-is : meant (r .best) ≡ nothing → Recorded stored hs (ds ++ (c ∷ []))
+    recorded-is : meant (r .best) ≡ nothing → TablesRecorded stored hs (ds ++ (c ∷ []))
     recorded-is none =
         let p = neither (meant (w .best)) (earlier (first (callFaults ins ds c)) (first (operationFaults hs c))) (sym found-is ∙ none) in
         let q = neither (first (callFaults ins ds c)) (first (operationFaults hs c)) (p .1) in
@@ -184,7 +184,7 @@ module _ (text table index after records wired stored : List ℕ) (n equal : ℕ
         let low : k < maxCalls = strictly (length ds) (old .few) n (state .counted .calls) in
         let clean = clean-uses (allAssigned ds) (allUsed ds) (used c) (old .uses) (first-none _ (v .1)) in
         let e = turn .state ∙ ap₂ (λ (u : ℕ) (l : List Token). wiresStored made k records u l) begins (ends .uses) in
-        subst (λ (l : List ℕ). Recorded l hs (ds ++ (c ∷ [])))
+        subst (λ (l : List ℕ). TablesRecorded l hs (ds ++ (c ∷ [])))
         (sym (store ∙ ap (λ (l : List ℕ). callStored l k (j .op ∷ place ∷ assigns ∷ used' ∷ [])) e))
         (recorded-more hs ds c records k (w .uses) (j .op ∷ place ∷ assigns ∷ used' ∷ []) room (state .counted .calls) (state .counted .uses) (words-are (q .1))
         low clean old)

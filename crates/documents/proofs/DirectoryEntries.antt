@@ -22,7 +22,7 @@ use Rattle.lists.specs.Directory.OperationsAt.{no-operation, an-operation}
 use Rattle.lists.proofs.First.{first-append}
 use Rattle.lists.proofs.Faultless.{neither, few-params, apart-params}
 use Rattle.documents.specs.declared.operation.Operation.{Operation}
-use Rattle.documents.specs.Tallies.{Copied, Recorded, NamesBelow, Declares, Nth, speltAt, NumberOf}
+use Rattle.documents.specs.Tallies.{Copied, ParamsRecorded, NamesBelow, Declares, Nth, speltAt, NumberOf}
 use Rattle.documents.specs.Tallies.Nth.{nth-first, after}
 use Rattle.documents.specs.Judged.{Readable}
 
@@ -144,7 +144,7 @@ readable {text} {table} {words} {n} {k} {h} o c l r =
     named-inside p a e = rw e at (a .inside)
 
 module _ {words : List ℕ} {k : ℕ} {o : Operation} (c : Copied words k o) where
-  pub recorded : {n : ℕ} → Readable words n k → Recorded words o
+  pub recorded : {n : ℕ} → Readable words n k → ParamsRecorded words o
   recorded r =
       let a = r .few in
       let b = r .ordered in

@@ -25,8 +25,8 @@ use Rattle.documents.specs.Code as Code
 use Rattle.documents.specs.Wiring.{strangers}
 use Rattle.documents.specs.DocumentRules.{badVersion}
 use Rattle.documents.specs.Walks.{listing}
-use Rattle.documents.specs.Naming.{Entry, numbered, numberOf, input, output, headed, Naming}
-use Rattle.documents.specs.NameWalks.{Lists, Unassigned}
+use Rattle.documents.specs.Naming.{Entry, numbered, entryNumber, inputWord, outputWord, headed, Naming}
+use Rattle.documents.specs.NameWalks.{ListsNames, Unassigned}
 use Rattle.documents.specs.Graphs.{GraphAt, Rising, Blank, Headed, Unmade, Body, Rules}
 use Rattle.documents.specs.declared.graph.Graph.{Graph}
 use Rattle.documents.specs.declared.body.Walk.{Walk}
@@ -40,10 +40,10 @@ module _ (text table index : List ℕ) (n k : ℕ) (b : Blank index n) where
   blank-walks = empty-walkable index (b .size) (b .zeros) k n (b .room)
 
   pub blank-named : Naming text table index k [] []
-  unfolding numberOf
-  blank-named = mapped-as (both (numberOf []) (numberOf [])) by (empty-mapped index (b .size) (b .zeros) text table k)
+  unfolding entryNumber
+  blank-named = mapped-as (both (entryNumber []) (entryNumber [])) by (empty-mapped index (b .size) (b .zeros) text table k)
     where
-      by : (i : ℕ) (w : List ℕ) → i < nameWords → both (numberOf []) (numberOf []) i w ≡ 0
+      by : (i : ℕ) (w : List ℕ) → i < nameWords → both (entryNumber []) (entryNumber []) i w ≡ 0
       by zero w l = refl
       by (suc i) w l = refl
 
@@ -58,12 +58,12 @@ module _ (text table : List ℕ) (g : Graph) where
 
   pub headed-is : (index between after : List ℕ) (start middle inputs outputs : Tally) → Rising g → start .count ≡ 0 → middle .count ≡ 0
       → middle .best ≡ inputs .best
-      → Lists text table index between (g .first) (g .inputs) maxInputs input ins start inputs
-      → Lists text table between after (g .outputs) (g .closes) maxOutputs output outs middle outputs
+      → ListsNames text table index between (g .first) (g .inputs) maxInputs inputWord ins start inputs
+      → ListsNames text table between after (g .outputs) (g .closes) maxOutputs outputWord outs middle outputs
       → Naming text table index (g .first) [] [] → Headed text table after g (start .best) (outputs .best)
   headed-is index between after start middle inputs outputs rising s m b one two named =
       let t = one [] [] [] named s in
-      let known = subst (λ (l : List Entry). Naming text table between (g .outputs) l []) (sym (append-nil (numbered input ins)))
+      let known = subst (λ (l : List Entry). Naming text table between (g .outputs) l []) (sym (append-nil (numbered inputWord ins)))
       (mapped-wider (rising .outputs) (t .state)) in
       let u = two ins [] [] known m in
       record {

@@ -13,7 +13,7 @@ use Rattle.syntax.specs.Tree.{Call}
 use Rattle.index.specs.Mapped.{kept, keeping}
 use Rattle.lists.specs.Names.{isAmong, assigned, allAssigned}
 use Rattle.documents.specs.Tables.{assigner}
-use Rattle.documents.specs.Naming.{Entry, numbered, numberOf, input, output, headed, assignersFrom, assigners}
+use Rattle.documents.specs.Naming.{Entry, numbered, entryNumber, inputWord, outputWord, headed, assignersFrom, assigners}
 use Rattle.documents.specs.Records.{wired}
 use Rattle.documents.proofs.Lookups.{among-append}
 
@@ -38,17 +38,17 @@ kept-assoc (suc a) b c =
 
 -- ---- entries after entries
 
-pub number-append : (es fs : List Entry) (w : List ℕ) → numberOf (es ++ fs) w ≡ kept (numberOf es w) (numberOf fs w)
-unfolding numberOf
-number-append [] fs w = sym (kept-none 0 (numberOf fs w) refl)
+pub number-append : (es fs : List Entry) (w : List ℕ) → entryNumber (es ++ fs) w ≡ kept (entryNumber es w) (entryNumber fs w)
+unfolding entryNumber
+number-append [] fs w = sym (kept-none 0 (entryNumber fs w) refl)
 number-append (e ∷ es) fs w =
     let a = cond (sameBytes (e .name .bytes) w) (e .number) 0 in
-    ap (kept a) (number-append es fs w) ∙ sym (kept-assoc a (numberOf es w) (numberOf fs w))
+    ap (kept a) (number-append es fs w) ∙ sym (kept-assoc a (entryNumber es w) (entryNumber fs w))
 
 -- one entry more
-pub number-last : (es : List Entry) (x : ℕ) (t : Token) (w : List ℕ) → numberOf (es ++ numbered x (t ∷ [])) w ≡ keeping (numberOf es) (t .bytes) x w
-unfolding numberOf
-number-last es x t w = number-append es (numbered x (t ∷ [])) w ∙ ap (kept (numberOf es w)) (kept-zero (cond (sameBytes (t .bytes) w) x 0))
+pub number-last : (es : List Entry) (x : ℕ) (t : Token) (w : List ℕ) → entryNumber (es ++ numbered x (t ∷ [])) w ≡ keeping (entryNumber es) (t .bytes) x w
+unfolding entryNumber
+number-last es x t w = number-append es (numbered x (t ∷ [])) w ∙ ap (kept (entryNumber es w)) (kept-zero (cond (sameBytes (t .bytes) w) x 0))
 
 pub numbered-append : (x : ℕ) (ss ts : List Token) → numbered x (ss ++ ts) ≡ numbered x ss ++ numbered x ts
 numbered-append x [] ts = refl
@@ -56,13 +56,13 @@ numbered-append x (s ∷ ss) ts = ap (λ (l : List Entry). record { name = s; nu
 
 -- ---- one number for all
 
-number-same : (x : ℕ) (ss : List Token) (t : Token) → numberOf (numbered x ss) (t .bytes) ≡ cond (isAmong ss t) x 0
-unfolding numberOf isAmong
+number-same : (x : ℕ) (ss : List Token) (t : Token) → entryNumber (numbered x ss) (t .bytes) ≡ cond (isAmong ss t) x 0
+unfolding entryNumber isAmong
 number-same x [] t = refl
 number-same x (s ∷ ss) t = by (sameBytes (s .bytes) (t .bytes)) (number-same x ss t)
   where
-    by : (b : Bool) → numberOf (numbered x ss) (t .bytes) ≡ cond (isAmong ss t) x 0
-        → kept (cond b x 0) (numberOf (numbered x ss) (t .bytes)) ≡ cond (b || isAmong ss t) x 0
+    by : (b : Bool) → entryNumber (numbered x ss) (t .bytes) ≡ cond (isAmong ss t) x 0
+        → kept (cond b x 0) (entryNumber (numbered x ss) (t .bytes)) ≡ cond (b || isAmong ss t) x 0
     by true e = ap (kept x) e ∙ both (isAmong ss t)
       where
         both : (c : Bool) → kept x (cond c x 0) ≡ x
@@ -72,7 +72,7 @@ number-same x (s ∷ ss) t = by (sameBytes (s .bytes) (t .bytes)) (number-same x
             self zero = refl
             self (suc y) = kept-some (suc y) (suc y) (λ e. omega arith)
         both false = kept-zero x
-    by false e = kept-none 0 (numberOf (numbered x ss) (t .bytes)) refl ∙ e
+    by false e = kept-none 0 (entryNumber (numbered x ss) (t .bytes)) refl ∙ e
 
 -- a name has a number where it is among the names
 is-listed : (x : ℕ) → 0 < x → (b : Bool) → not (eqb (cond b x 0) 0) ≡ b
@@ -87,26 +87,26 @@ either (suc a) b p q e f =
     one : not (eqb (suc a) 0) ≡ true
     one = ap not (ne-eqb (suc a) 0 (λ z. omega arith))
 
-pub same-listed : (x : ℕ) (ss : List Token) (t : Token) → 0 < x → not (eqb (numberOf (numbered x ss) (t .bytes)) 0) ≡ isAmong ss t
+pub same-listed : (x : ℕ) (ss : List Token) (t : Token) → 0 < x → not (eqb (entryNumber (numbered x ss) (t .bytes)) 0) ≡ isAmong ss t
 same-listed x ss t h = ap (λ (c : ℕ). not (eqb c 0)) (number-same x ss t) ∙ is-listed x h (isAmong ss t)
 
 -- ---- a header
 
 module _ (before ss : List Token) (x : ℕ) (h : 0 < x) (t : Token) where
-  pub header-listed : not (eqb (numberOf (numbered input before ++ numbered x ss) (t .bytes)) 0) ≡ isAmong (before ++ ss) t
+  pub header-listed : not (eqb (entryNumber (numbered inputWord before ++ numbered x ss) (t .bytes)) 0) ≡ isAmong (before ++ ss) t
   header-listed =
-      ap (λ (c : ℕ). not (eqb c 0)) (number-append (numbered input before) (numbered x ss) (t .bytes))
-      ∙ either (numberOf (numbered input before) (t .bytes)) (numberOf (numbered x ss) (t .bytes)) (isAmong before t) (isAmong ss t)
-      (same-listed input before t (omega arith)) (same-listed x ss t h)
+      ap (λ (c : ℕ). not (eqb c 0)) (number-append (numbered inputWord before) (numbered x ss) (t .bytes))
+      ∙ either (entryNumber (numbered inputWord before) (t .bytes)) (entryNumber (numbered x ss) (t .bytes)) (isAmong before t) (isAmong ss t)
+      (same-listed inputWord before t (omega arith)) (same-listed x ss t h)
       ∙ sym (among-append before ss t)
 
-pub header-input : (ins outs : List Token) (t : Token) → eqb (numberOf (headed ins outs) (t .bytes)) input ≡ isAmong ins t
+pub header-input : (ins outs : List Token) (t : Token) → eqb (entryNumber (headed ins outs) (t .bytes)) inputWord ≡ isAmong ins t
 header-input ins outs t =
-    ap (λ (c : ℕ). eqb c input)
-    (number-append (numbered input ins) (numbered output outs) (t .bytes) ∙ ap₂ kept (number-same input ins t) (number-same output outs t))
+    ap (λ (c : ℕ). eqb c inputWord)
+    (number-append (numbered inputWord ins) (numbered outputWord outs) (t .bytes) ∙ ap₂ kept (number-same inputWord ins t) (number-same outputWord outs t))
     ∙ by (isAmong ins t) (isAmong outs t)
   where
-    by : (p q : Bool) → eqb (kept (cond p input 0) (cond q output 0)) input ≡ p
+    by : (p q : Bool) → eqb (kept (cond p inputWord 0) (cond q outputWord 0)) inputWord ≡ p
     by true q = refl
     by false true = refl
     by false false = refl
@@ -126,8 +126,8 @@ assigners-last k (d ∷ ds) c =
 
 -- the number is that of the first call that assigns it; every number is above k, and none beyond the last call's
 assigner-from : (k : ℕ) (ds : List Call) (t : Token)
-    → numberOf (assignersFrom k ds) (t .bytes) ≡ cond (isAmong (allAssigned ds) t) (suc (k + assigner ds t)) 0
-unfolding assignersFrom numberOf allAssigned flatMap isAmong assigner
+    → entryNumber (assignersFrom k ds) (t .bytes) ≡ cond (isAmong (allAssigned ds) t) (suc (k + assigner ds t)) 0
+unfolding assignersFrom entryNumber allAssigned flatMap isAmong assigner
 assigner-from k [] t = refl
 assigner-from k (c ∷ cs) t =
     number-append (numbered (suc k) (assigned c)) (assignersFrom (suc k) cs) (t .bytes)
@@ -171,7 +171,7 @@ assigner-kept (c ∷ cs) rest t h = by (isAmong (assigned c) t) refl (sym (among
 
 module _ (ds : List Call) (ss : List Token) (k : ℕ) (e : k ≡ length ds) (t : Token) where
   abbrev number : ℕ
-  number = numberOf (assigners ds ++ numbered (suc k) ss) (t .bytes)
+  number = entryNumber (assigners ds ++ numbered (suc k) ss) (t .bytes)
 
   number-is : number ≡ kept (cond (isAmong (allAssigned ds) t) (suc (assigner ds t)) 0) (cond (isAmong ss t) (suc k) 0)
   number-is =
@@ -230,7 +230,7 @@ module _ (ds : List Call) (ss : List Token) (k : ℕ) (e : k ≡ length ds) (t :
       ∙ z
 
 -- a name that no call assigns
-pub unassigned-is : (cs : List Call) (t : Token) → eqb (numberOf (assigners cs) (t .bytes)) 0 ≡ not (isAmong (allAssigned cs) t)
+pub unassigned-is : (cs : List Call) (t : Token) → eqb (entryNumber (assigners cs) (t .bytes)) 0 ≡ not (isAmong (allAssigned cs) t)
 unassigned-is cs t = ap (λ (x : ℕ). eqb x 0) (assigner-from 0 cs t) ∙ by (isAmong (allAssigned cs) t)
   where
     by : (b : Bool) → eqb (cond b (suc (0 + assigner cs t)) 0) 0 ≡ not b

@@ -20,7 +20,7 @@ use Rattle.syntax.specs.Inner.{lookahead}
 use Rattle.syntax.proofs.Tails.{Takes, Tails}
 use Rattle.syntax.proofs.Tails.Takes.{took}
 use Rattle.syntax.proofs.Table.{toks-none, toks-more, toks-rest, toks-suffix}
-use Rattle.lists.specs.Fitting.{isLeaf}
+use Rattle.lists.specs.Fitting.{isLeafSymbol}
 
 -- constructors that differ
 pub clash : {X : Type 0} → _≡_ {A = ℕ} 0 1 → X
@@ -57,20 +57,20 @@ pub token-is : (text table : List ℕ) (n i : ℕ) {t : Token} {ts : List Token}
 token-is text table n i {t} {ts} h = let z = sym h ∙ toks-more text table n i (token-there text table n i h) in cc
 
 -- a leaf is one token
-pub leaf-ends : (text table : List ℕ) (n i : ℕ) {m : Leaves} {b : ℕ} {v : Value} {us : List Token} → isLeaf (lookahead (toks text table n i)) ≡ true
+pub leaf-ends : (text table : List ℕ) (n i : ℕ) {m : Leaves} {b : ℕ} {v : Value} {us : List Token} → isLeafSymbol (lookahead (toks text table n i)) ≡ true
     → Spells m b (toks text table n i) v us → us ≡ toks text table n (i + 1)
 leaf-ends text table n i {m} h s = go s h ∙ toks-rest text table n i
   where
-    go : {b : ℕ} {ts us : List Token} {v : Value} → Spells m b ts v us → isLeaf (lookahead ts) ≡ true → us ≡ rest ts
+    go : {b : ℕ} {ts us : List Token} {v : Value} → Spells m b ts v us → isLeafSymbol (lookahead ts) ≡ true → us ≡ rest ts
     go (a-name q e) l = refl
     go (a-literal q e) l = refl
-    go (an-empty-array e f) l = absurd (false≢true (sym (ap isLeaf e) ∙ l))
-    go (an-array e f) l = absurd (false≢true (sym (ap isLeaf e) ∙ l))
-    go (a-tuple e f g r) l = absurd (false≢true (sym (ap isLeaf e) ∙ l))
+    go (an-empty-array e f) l = absurd (false≢true (sym (ap isLeafSymbol e) ∙ l))
+    go (an-array e f) l = absurd (false≢true (sym (ap isLeafSymbol e) ∙ l))
+    go (a-tuple e f g r) l = absurd (false≢true (sym (ap isLeafSymbol e) ∙ l))
 
-pub leaf-there : (text table : List ℕ) (n i : ℕ) → isLeaf (lookahead (toks text table n i)) ≡ true → i < n
+pub leaf-there : (text table : List ℕ) (n i : ℕ) → isLeafSymbol (lookahead (toks text table n i)) ≡ true → i < n
 leaf-there text table n i h = go (leb n i) refl
   where
     go : (b : Bool) → leb n i ≡ b → i < n
-    go true e = absurd (false≢true (sym (ap (λ (ts : List Token). isLeaf (lookahead ts)) (toks-none text table n i (leb-true n i e))) ∙ h))
+    go true e = absurd (false≢true (sym (ap (λ (ts : List Token). isLeafSymbol (lookahead ts)) (toks-none text table n i (leb-true n i e))) ∙ h))
     go false e = leb-false n i e

@@ -15,7 +15,7 @@ use Rattle.lexis.specs.Lexer.{Token}
 use Rattle.syntax.specs.Tree.{Call}
 use Rattle.syntax.specs.Table.{tokenAt}
 use Rattle.index.specs.Layout.{nameWords, wordPlace, wordAt}
-use Rattle.index.specs.Mapped.{Placed, both, keeping, keptIn, Enters, LooksUp}
+use Rattle.index.specs.Mapped.{EnteredAt, both, keeping, keptIn, Enters, LooksUp}
 use Rattle.index.proofs.Theorems.{mapped-wider, mapped-as, word-placed, first-kept, second-kept}
 use Rattle.lists.specs.Code as Lists
 use Rattle.lists.specs.Fault.{Fault, fault, faults, starts, before, earlier, first}
@@ -28,7 +28,7 @@ use Rattle.lists.proofs.Rules.{scan-one}
 use Rattle.documents.specs.Code as Code
 use Rattle.documents.specs.Wiring.{strangers}
 use Rattle.documents.specs.Walks.{listing, misfeeds, assigning, consuming, coded, Turn}
-use Rattle.documents.specs.Naming.{Entry, numbered, numberOf, input, headed, assigners, Naming}
+use Rattle.documents.specs.Naming.{Entry, numbered, entryNumber, inputWord, headed, assigners, Naming}
 use Rattle.documents.specs.Records.{wired, wireStored, wiresStored}
 use Rattle.documents.specs.declared.wiring.Tally.{Tally}
 use Rattle.documents.proofs.Entries.{number-last, numbered-append, header-listed, header-input, assigned-before, unwired-is, unassigned-is}
@@ -115,14 +115,14 @@ module _ (text table index entered : List ℕ) (i p : ℕ) (enters : Enters text
   t = tokenAt text table i
 
   module _ (es made : List Entry) (named : Naming text table index i es made) where
-    placed : Placed text table entered (i + 1) (both (numberOf es) (numberOf made)) (t .bytes) p
-    placed = enters i (both (numberOf es) (numberOf made)) (omega arith) named
+    placed : EnteredAt text table entered (i + 1) (both (entryNumber es) (entryNumber made)) (t .bytes) p
+    placed = enters i (both (entryNumber es) (entryNumber made)) (omega arith) named
 
     -- its number in the header, and the call that assigns it
-    pub header-number : {h : ℕ} → h ≡ wordAt entered p 0 → h ≡ numberOf es (t .bytes)
+    pub header-number : {h : ℕ} → h ≡ wordAt entered p 0 → h ≡ entryNumber es (t .bytes)
     header-number e = e ∙ word-placed placed 0 (omega arith)
 
-    pub call-number : {h : ℕ} → h ≡ wordAt entered p 1 → h ≡ numberOf made (t .bytes)
+    pub call-number : {h : ℕ} → h ≡ wordAt entered p 1 → h ≡ entryNumber made (t .bytes)
     call-number e = e ∙ word-placed placed 1 (omega arith)
 
     module _ (x : ℕ) (after : List ℕ) where
@@ -130,10 +130,10 @@ module _ (text table index entered : List ℕ) (i p : ℕ) (enters : Enters text
       pub listed-more : wordPlace p 0 < length entered → after ≡ keptIn entered p 0 x → Naming text table after (i + 1) (es ++ numbered x (t ∷ [])) made
       listed-more room e =
           subst (λ (l : List ℕ). Naming text table l (i + 1) (es ++ numbered x (t ∷ [])) made) (sym e)
-          (mapped-as (both (numberOf (es ++ numbered x (t ∷ []))) (numberOf made)) by (first-kept placed x room .mapped))
+          (mapped-as (both (entryNumber (es ++ numbered x (t ∷ []))) (entryNumber made)) by (first-kept placed x room .mapped))
         where
           by : (j : ℕ) (w : List ℕ) → j < nameWords
-              → both (numberOf (es ++ numbered x (t ∷ []))) (numberOf made) j w ≡ both (keeping (numberOf es) (t .bytes) x) (numberOf made) j w
+              → both (entryNumber (es ++ numbered x (t ∷ []))) (entryNumber made) j w ≡ both (keeping (entryNumber es) (t .bytes) x) (entryNumber made) j w
           by zero w l = number-last es x t w
           by (suc j) w l = refl
 
@@ -141,10 +141,10 @@ module _ (text table index entered : List ℕ) (i p : ℕ) (enters : Enters text
       pub assigned-more : wordPlace p 1 < length entered → after ≡ keptIn entered p 1 x → Naming text table after (i + 1) es (made ++ numbered x (t ∷ []))
       assigned-more room e =
           subst (λ (l : List ℕ). Naming text table l (i + 1) es (made ++ numbered x (t ∷ []))) (sym e)
-          (mapped-as (both (numberOf es) (numberOf (made ++ numbered x (t ∷ [])))) by (second-kept placed x room .mapped))
+          (mapped-as (both (entryNumber es) (entryNumber (made ++ numbered x (t ∷ [])))) by (second-kept placed x room .mapped))
         where
           by : (j : ℕ) (w : List ℕ) → j < nameWords
-              → both (numberOf es) (numberOf (made ++ numbered x (t ∷ []))) j w ≡ both (numberOf es) (keeping (numberOf made) (t .bytes) x) j w
+              → both (entryNumber es) (entryNumber (made ++ numbered x (t ∷ []))) j w ≡ both (entryNumber es) (keeping (entryNumber made) (t .bytes) x) j w
           by zero w l = refl
           by (suc j) w l = number-last made x t w
 
@@ -179,11 +179,11 @@ module _ (text table index entered after : List ℕ) (i p : ℕ) (tally r : Tall
   module _ (size which had again : ℕ) (positive : 0 < which) (room : wordPlace p 0 < length entered) (had-is : had ≡ wordAt entered p 0)
       (kept : after ≡ keptIn entered p 0 which) (again-is : again ≡ cond (not (eqb had 0)) Lists.repeatedName 0)
       (code-is : code ≡ cond (eqb (tally .count) size) Lists.overSize again) where
-    pub listed-name : (before ss : List Token) (made : List Entry) → Naming text table index i (numbered input before ++ numbered which ss) made
+    pub listed-name : (before ss : List Token) (made : List Entry) → Naming text table index i (numbered inputWord before ++ numbered which ss) made
         → tally .count ≡ length ss
-        → Turn (listing size before) ss xs tally r (Naming text table after (i + 1) (numbered input before ++ numbered which (ss ++ xs)) made)
+        → Turn (listing size before) ss xs tally r (Naming text table after (i + 1) (numbered inputWord before ++ numbered which (ss ++ xs)) made)
     listed-name before ss made named k =
-        let es = numbered input before ++ numbered which ss in
+        let es = numbered inputWord before ++ numbered which ss in
         let twice : not (eqb had 0) ≡ isAmong (before ++ ss) u =
         ap (λ (h : ℕ). not (eqb h 0)) (header-number text table index entered i p enters es made named had-is) ∙ header-listed before ss which positive u in
         turn-one (listing size before) ss tally k r u (coded code place) here next
@@ -191,13 +191,13 @@ module _ (text table index entered after : List ℕ) (i p : ℕ) (tally r : Tall
         ∙ ap₂ (λ (a b : Bool). first (when a (fault Lists.overSize place) ++ when b (fault Lists.repeatedName place))) (ap (λ (j : ℕ). eqb j size) k) twice
         ∙ ap (λ (q : ℕ). first (when (eqb (length ss) size) (fault Lists.overSize q) ++ when (isAmong (before ++ ss) u) (fault Lists.repeatedName q))) starts)
         (subst (λ (l : List Entry). Naming text table after (i + 1) l made)
-        (numbered-more (numbered input before) which ss (u ∷ []) ∙ ap (λ (l : List Token). numbered input before ++ numbered which (ss ++ l)) (sym here))
+        (numbered-more (numbered inputWord before) which ss (u ∷ []) ∙ ap (λ (l : List Token). numbered inputWord before ++ numbered which (ss ++ l)) (sym here))
         (listed-more text table index entered i p enters es made named which after room kept))
 
   -- an identifier of a left side
   module _ (k x had listing fed again : ℕ) (external feeds : Bool) (room : wordPlace p 1 < length entered) (had-is : had ≡ wordAt entered p 1)
       (listing-is : listing ≡ wordAt entered p 0) (number : x ≡ suc k) (kept : after ≡ keptIn entered p 1 x)
-      (feeds-is : feeds ≡ misfeeds external (eqb listing input))
+      (feeds-is : feeds ≡ misfeeds external (eqb listing inputWord))
       (fed-is : fed ≡ cond feeds Code.misfed 0) (again-is : again ≡ cond (not (eqb had 0)) Code.assignedAgain fed)
       (code-is : code ≡ cond (eqb (tally .count) maxAssigned) Lists.overSize again) where
     pub assigned-name : (ins outs : List Token) (ds : List Call) (ss : List Token) → k ≡ length ds
@@ -213,7 +213,7 @@ module _ (text table index entered after : List ℕ) (i p : ℕ) (tally r : Tall
         let wrong : feeds ≡ misfeeds external (isAmong ins u) =
         feeds-is
         ∙ ap (misfeeds external)
-        (ap (λ (h : ℕ). eqb h input) (header-number text table index entered i p enters es made named listing-is) ∙ header-input ins outs u) in
+        (ap (λ (h : ℕ). eqb h inputWord) (header-number text table index entered i p enters es made named listing-is) ∙ header-input ins outs u) in
         turn-one (assigning ins external) all tally c r u (coded code place) here next
         (coded-three place Lists.overSize Code.assignedAgain Code.misfed (eqb (tally .count) maxAssigned) (not (eqb had 0)) feeds
         (omega arith) (omega arith) (omega arith) fed-is again-is code-is
@@ -249,7 +249,7 @@ module _ (text table index records after : List ℕ) (i k : ℕ) (tally r : Tall
   unfolding wiresStored
   used-name j es ds ls ss e named c =
       let made = assigners ds ++ numbered (suc k) ls in
-      let number : a ≡ numberOf made (v .bytes) = looks j (both (numberOf es) (numberOf made)) named in
+      let number : a ≡ entryNumber made (v .bytes) = looks j (both (entryNumber es) (entryNumber made)) named in
       let away : cond (eqb a 0) (eqb a 0) (ltb k a) ≡ not (isAmong (allAssigned ds) v) =
       ap (λ (x : ℕ). cond (eqb x 0) (eqb x 0) (ltb k x)) number ∙ unwired-is ds ls k e v in
       turn-one (consuming (allAssigned ds)) ss tally c r v (coded code place) here next
@@ -276,7 +276,7 @@ module _ (text table index : List ℕ) (i code a place : ℕ) {xs : List Token} 
   unfolding those
   missing-one j es cs named =
       ap₂ (λ (b : Bool) (q : ℕ). first (when b (fault code q)))
-      (ap (λ (x : ℕ). eqb x 0) (looks j (both (numberOf es) (numberOf (assigners cs))) named) ∙ unassigned-is cs (tokenAt text table i)) begins
+      (ap (λ (x : ℕ). eqb x 0) (looks j (both (entryNumber es) (entryNumber (assigners cs))) named) ∙ unassigned-is cs (tokenAt text table i)) begins
       ∙ by (not (isAmong (allAssigned cs) (tokenAt text table i)))
       ∙ sym (ap (λ (l : List Token). first (faults code (starts (strangers (allAssigned cs) l)))) here)
     where

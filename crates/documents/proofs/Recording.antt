@@ -18,7 +18,7 @@ use Rattle.lists.specs.Walks.{when, scan}
 use Rattle.documents.specs.Tables.{callRecord, callTable, wireTable}
 use Rattle.documents.specs.Walks.{consuming}
 use Rattle.documents.specs.Naming.{Entry, numbered, assigners}
-use Rattle.documents.specs.Records.{callSize, wireSize, firstWire, recordsWords, Stored, callStored, wireStored, useWords, wiresStored, wireOf, Recorded}
+use Rattle.documents.specs.Records.{callSize, wireSize, firstWire, recordsWords, Stored, callStored, wireStored, useWords, wiresStored, wireOf, TablesRecorded}
 use Rattle.documents.specs.Records.{Kept}
 use Rattle.documents.proofs.Entries.{assigner-kept, wired-is}
 use Rattle.documents.proofs.Sums.{used-last, flat-append, flat-one}
@@ -213,7 +213,7 @@ module _ (known : List Token) where
 
 module _ (hs : List Header) (ds : List Call) (c : Call) (records : List ℕ) (k u : ℕ) (xs : List ℕ) (room : recordsWords ≤ length records)
     (number : k ≡ length ds) (uses : u ≡ length (allUsed ds)) (words : xs ≡ callRecord hs c) (below : k < maxCalls)
-    (clean : Clean (allAssigned ds) (allUsed ds) (used c)) (r : Recorded records hs ds) where
+    (clean : Clean (allAssigned ds) (allUsed ds) (used c)) (r : TablesRecorded records hs ds) where
   abbrev made : List Entry
   made = assigners ds ++ numbered (suc k) (assigned c)
 
@@ -266,7 +266,7 @@ module _ (hs : List Header) (ds : List Call) (c : Call) (records : List ℕ) (k 
       (stored-as wired after (firstWire + u * wireSize) (flatMap (useWords made k) (used c)) (λ x a b. call-above wired k xs four x (omega arith))
       (wires-in made k records u (used c) few-uses room)))))
 
-  pub recorded-more : Recorded after hs (ds ++ (c ∷ []))
+  pub recorded-more : TablesRecorded after hs (ds ++ (c ∷ []))
   recorded-more =
       record {
         few = let z = length-append ds (c ∷ []) in omega arith;
@@ -276,13 +276,13 @@ module _ (hs : List Header) (ds : List Call) (c : Call) (records : List ℕ) (k 
       }
 
 -- none yet
-pub recorded-none : (records : List ℕ) (hs : List Header) → Recorded records hs []
+pub recorded-none : (records : List ℕ) (hs : List Header) → TablesRecorded records hs []
 unfolding allUsed flatMap
 recorded-none records hs = record { few = omega arith; uses = omega arith; called = λ j h. absurd (omega arith); wires = λ rest j h. absurd (omega arith) }
 
 -- those of all calls are both tables
 pub recorded-all : (records : List ℕ) (hs : List Header) (d : Document) (calls uses : ℕ) → calls ≡ length (d .calls) → uses ≡ length (allUsed (d .calls))
-    → Recorded records hs (d .calls) → Kept records hs d calls uses
+    → TablesRecorded records hs (d .calls) → Kept records hs d calls uses
 unfolding callTable wireTable
 recorded-all records hs d calls uses e f r =
     record {

@@ -17,7 +17,7 @@ use Rattle.lists.specs.Names.{isAmong, repeatsAfter, repeats}
 use Rattle.lists.specs.Reading.{allTensor}
 use Rattle.lists.specs.ListRules.{paramNames}
 use Rattle.documents.specs.Binding.{takesPlace}
-use Rattle.documents.specs.Arguments.{Indexed, seek}
+use Rattle.documents.specs.Arguments.{SoughtParam, seek}
 use Rattle.documents.specs.Tallies.{Nth}
 use Rattle.documents.specs.Tallies.Nth.{nth-first, after}
 
@@ -165,12 +165,12 @@ seek-none t k (p ∷ ps) h = go (alike p t) refl h (seek-none t (suc k) ps)
     go false e q ih = cons e (ih q)
 
 -- it is number k and so many
-pub record Unique (t : Token) (k : ℕ) (ps : List Param) (s : Indexed) : Type 0 where
+pub record Unique (t : Token) (k : ℕ) (ps : List Param) (s : SoughtParam) : Type 0 where
   pub place : ℕ
   pub number : s .index ≡ k + place
   pub only : Only t place (s .param) ps
 
-seek-after : (t : Token) (seen : List Token) (k : ℕ) (ps : List Param) (s : Indexed) → repeatsAfter seen (paramNames ps) ≡ []
+seek-after : (t : Token) (seen : List Token) (k : ℕ) (ps : List Param) (s : SoughtParam) → repeatsAfter seen (paramNames ps) ≡ []
     → seek (ofName t) k ps ≡ some s → Unique t k ps s
 unfolding seek
 seek-after t seen k [] s d h = clash h
@@ -188,7 +188,7 @@ seek-after t seen k (p ∷ ps) s d h = go (alike p t) refl h (fresh seen (p .nam
         let u = ih (f .rest) q in
         record { place = suc (u .place); number = omega (arith, u .number); only = there e (u .only) }
 
-pub seek-only : (t : Token) (ps : List Param) (s : Indexed) → repeats (paramNames ps) ≡ [] → seek (ofName t) 0 ps ≡ some s → Only t (s .index) (s .param) ps
+pub seek-only : (t : Token) (ps : List Param) (s : SoughtParam) → repeats (paramNames ps) ≡ [] → seek (ofName t) 0 ps ≡ some s → Only t (s .index) (s .param) ps
 seek-only t ps s d h =
     let u = seek-after t [] 0 ps s d h in
     let e : s .index ≡ u .place = omega (arith, u .number) in

@@ -28,9 +28,9 @@ use Rattle.lists.proofs.Parts.{those-append}
 use Rattle.lists.proofs.NameScans.{is-name, no-name}
 use Rattle.documents.specs.Wiring.{strangers}
 use Rattle.documents.specs.Walks.{listing, assigning, consuming, Turn}
-use Rattle.documents.specs.Naming.{Entry, numbered, input, headed, assigners, Naming}
+use Rattle.documents.specs.Naming.{Entry, numbered, inputWord, headed, assigners, Naming}
 use Rattle.documents.specs.Records.{useWords, wireStored, wiresStored}
-use Rattle.documents.specs.NameWalks.{Lists, Assigns, Uses, Unassigned}
+use Rattle.documents.specs.NameWalks.{ListsNames, Assigns, Uses, Unassigned}
 use Rattle.documents.specs.declared.wiring.Tally.{Tally}
 
 -- ---- any walk
@@ -142,10 +142,10 @@ module _ (text table before now : List ℕ) (from to i : ℕ) (tally sum : Tally
 
   abbrev pub Listing : ℕ → ℕ → Type 0
   Listing size which =
-      (earlier ss : List Token) (made : List Entry) → Naming text table before from (numbered input earlier ++ numbered which ss) made
+      (earlier ss : List Token) (made : List Entry) → Naming text table before from (numbered inputWord earlier ++ numbered which ss) made
       → tally .count ≡ length ss
       → Walking (listing size earlier) ss (names from) (names i) tally sum
-      (λ ps. Naming text table now i (numbered input earlier ++ numbered which (ss ++ ps)) made)
+      (λ ps. Naming text table now i (numbered inputWord earlier ++ numbered which (ss ++ ps)) made)
 
   abbrev pub Assigning : ℕ → Bool → Type 0
   Assigning k external =
@@ -181,7 +181,7 @@ module _ (text table before : List ℕ) (from to : ℕ) (tally : Tally) where
   pub listing-start : (size which : ℕ) → Listing text table before before from to from tally tally size which
   listing-start size which earlier ss made m e =
       walking-start (listing size earlier) ss (namesAmong (toks text table to from)) tally e
-      (subst (λ (l : List Token). Naming text table before from (numbered input earlier ++ numbered which l) made) (sym (append-nil ss)) m)
+      (subst (λ (l : List Token). Naming text table before from (numbered inputWord earlier ++ numbered which l) made) (sym (append-nil ss)) m)
 
   pub assigning-start : (k : ℕ) (external : Bool) → Assigning text table before before from to from tally tally k external
   assigning-start k external ins outs ds ss c m e =
@@ -195,14 +195,14 @@ module _ (text table before : List ℕ) (from to : ℕ) (tally : Tally) where
   module _ (now next : List ℕ) (i : ℕ) (sum r : Tally) (h : i < to) where
     -- one place more
     pub listing-next : (size which : ℕ) → Listing text table before now from to i tally sum size which
-        → Lists text table now next i (i + 1) size which (namesAmong (tokenAt text table i ∷ [])) sum r
+        → ListsNames text table now next i (i + 1) size which (namesAmong (tokenAt text table i ∷ [])) sum r
         → Listing text table before next from to (i + 1) tally r size which
     listing-next size which w step earlier ss made m e =
         let v = w earlier ss made m e in
         let xs = namesAmong (tokenAt text table i ∷ []) in
         walking-next (listing size earlier) ss (namesAmong (toks text table to from)) tally xs (namesAmong (toks text table to (i + 1)))
         (names-step text table to i h) v
-        (turn-as refl (more-names (numbered input earlier) which (λ l. Naming text table next (i + 1) l made) ss (v .passed) xs)
+        (turn-as refl (more-names (numbered inputWord earlier) which (λ l. Naming text table next (i + 1) l made) ss (v .passed) xs)
         (step earlier (ss ++ v .passed) made (v .state) (v .counted)))
 
     pub assigning-next : (k : ℕ) (external : Bool) → Assigning text table before now from to i tally sum k external
@@ -234,10 +234,10 @@ module _ (text table before : List ℕ) (from to : ℕ) (tally : Tally) where
   module _ (now : List ℕ) (i : ℕ) (sum : Tally) where
     -- at the end
     pub listing-end : (size which : ℕ) → i ≡ to → Listing text table before now from to i tally sum size which
-        → Lists text table before now from to size which (namesAmong (toks text table to from)) tally sum
+        → ListsNames text table before now from to size which (namesAmong (toks text table to from)) tally sum
     listing-end size which z w earlier ss made m e =
         turn-as refl
-        (λ p. subst (λ (j : ℕ). Naming text table now j (numbered input earlier ++ numbered which (ss ++ namesAmong (toks text table to from))) made) z p)
+        (λ p. subst (λ (j : ℕ). Naming text table now j (numbered inputWord earlier ++ numbered which (ss ++ namesAmong (toks text table to from))) made) z p)
         (walking-end (listing size earlier) ss (namesAmong (toks text table to from)) tally (names-end text table to i (omega arith)) (w earlier ss made m e))
 
     pub assigning-end : (k : ℕ) (external : Bool) → i ≡ to → Assigning text table before now from to i tally sum k external

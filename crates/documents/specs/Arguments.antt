@@ -43,11 +43,11 @@ tallyFaults ps xs = flatten (misplaced ps xs ∷ misnamed ps xs ∷ misfits (slo
 -- ---- a parameter that is sought
 
 -- a parameter and its index
-pub record Indexed : Type 0 where
+pub record SoughtParam : Type 0 where
   pub index : ℕ
   pub param : Param
 
 -- the first parameter that passes the test, the first of the list being number k
-unfoldable pub seek : (ℕ → Param → Bool) → ℕ → List Param → Option Indexed
+unfoldable pub seek : (ℕ → Param → Bool) → ℕ → List Param → Option SoughtParam
 seek f k [] = nothing
 seek f k (p ∷ ps) = let r = seek f (suc k) ps in cond (f k p) (some (record { index = k; param = p })) r

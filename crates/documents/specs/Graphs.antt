@@ -26,7 +26,7 @@ use Rattle.documents.specs.DocumentRules.{documentFaults}
 use Rattle.documents.specs.Calls.{Calls}
 use Rattle.documents.specs.Walks.{listing, assigning, callFaults, bodyFaults}
 use Rattle.documents.specs.Naming.{Entry, headed, assigners, Naming}
-use Rattle.documents.specs.Records.{Recorded, Kept}
+use Rattle.documents.specs.Records.{TablesRecorded, Kept}
 use Rattle.documents.specs.Operations.{operationFaults}
 use Rattle.documents.specs.declared.graph.Graph.{Graph}
 use Rattle.documents.specs.declared.body.Walk.{Walk}
@@ -69,7 +69,7 @@ pub record WalkCounts (w : Walk) (ds : List Call) : Type 0 where
 pub record Walked (text table index records : List ℕ) (hs : List Header) (ins outs : List Token) (ds : List Call) (w : Walk) : Type 0 where
   pub counted : WalkCounts w ds
   pub named : Naming text table index (w .at) (headed ins outs) (assigners ds)
-  pub recorded : meant (w .best) ≡ nothing → Recorded records hs ds
+  pub recorded : meant (w .best) ≡ nothing → TablesRecorded records hs ds
 
 -- the left side of the call c after the calls ds: 12 if the call is one too many, and the faults of its identifiers
 pub record LeftSide (text table index : List ℕ) (equal : ℕ) (ins outs : List Token) (ds : List Call) (c : Call) (tally r : Tally) : Type 0 where

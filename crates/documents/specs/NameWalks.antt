@@ -12,15 +12,15 @@ use Rattle.lists.specs.Names.{allAssigned}
 use Rattle.lists.specs.declared.best.Best.{Best}
 use Rattle.documents.specs.Wiring.{strangers}
 use Rattle.documents.specs.Walks.{listing, assigning, consuming, Turn}
-use Rattle.documents.specs.Naming.{Entry, numbered, input, headed, assigners, Naming}
+use Rattle.documents.specs.Naming.{Entry, numbered, inputWord, headed, assigners, Naming}
 use Rattle.documents.specs.Records.{wiresStored}
 use Rattle.documents.specs.declared.wiring.Tally.{Tally}
 
 -- between the places i and j the names ts are listed with this number: 12 and 13
-abbrev pub Lists : List ℕ → List ℕ → List ℕ → List ℕ → ℕ → ℕ → ℕ → ℕ → List Token → Tally → Tally → Type 0
-Lists text table index index' i j size which ts tally r =
-    (before ss : List Token) (made : List Entry) → Naming text table index i (numbered input before ++ numbered which ss) made → tally .count ≡ length ss
-    → Turn (listing size before) ss ts tally r (Naming text table index' j (numbered input before ++ numbered which (ss ++ ts)) made)
+abbrev pub ListsNames : List ℕ → List ℕ → List ℕ → List ℕ → ℕ → ℕ → ℕ → ℕ → List Token → Tally → Tally → Type 0
+ListsNames text table index index' i j size which ts tally r =
+    (before ss : List Token) (made : List Entry) → Naming text table index i (numbered inputWord before ++ numbered which ss) made → tally .count ≡ length ss
+    → Turn (listing size before) ss ts tally r (Naming text table index' j (numbered inputWord before ++ numbered which (ss ++ ts)) made)
 
 -- between the places i and j call number k assigns the names ts: 12, 21 and 23
 abbrev pub Assigns : List ℕ → List ℕ → List ℕ → List ℕ → ℕ → ℕ → ℕ → Bool → List Token → Tally → Tally → Type 0

@@ -19,21 +19,21 @@ abbrev pub numbered : ℕ → List Token → List Entry
 numbered x ts = map (λ (t : Token). record { name = t; number = x }) ts
 
 -- the first number of an entry that is spelt w; 0 where there is none
-unfoldable pub numberOf : List Entry → List ℕ → ℕ
-numberOf [] w = 0
-numberOf (e ∷ es) w = let r = numberOf es w in kept (cond (sameBytes (e .name .bytes) w) (e .number) 0) r
+unfoldable pub entryNumber : List Entry → List ℕ → ℕ
+entryNumber [] w = 0
+entryNumber (e ∷ es) w = let r = entryNumber es w in kept (cond (sameBytes (e .name .bytes) w) (e .number) 0) r
 
 -- ---- the names of a document
 
-abbrev pub input : ℕ
-input = 1
+abbrev pub inputWord : ℕ
+inputWord = 1
 
-abbrev pub output : ℕ
-output = 2
+abbrev pub outputWord : ℕ
+outputWord = 2
 
 -- those of the header
 abbrev pub headed : List Token → List Token → List Entry
-headed ins outs = numbered input ins ++ numbered output outs
+headed ins outs = numbered inputWord ins ++ numbered outputWord outs
 
 -- those that calls assign, each with the number of its call, counted from 1; k calls come before these
 unfoldable pub assignersFrom : ℕ → List Call → List Entry
@@ -45,4 +45,4 @@ assigners cs = assignersFrom 0 cs
 
 -- the index has names that stand below k; word 0 of a name is its number by es, word 1 that by `made`
 abbrev pub Naming : List ℕ → List ℕ → List ℕ → ℕ → List Entry → List Entry → Type 0
-Naming text table index k es made = Mapped text table index k (both (numberOf es) (numberOf made))
+Naming text table index k es made = Mapped text table index k (both (entryNumber es) (entryNumber made))

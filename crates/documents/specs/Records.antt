@@ -11,7 +11,7 @@ use Rattle.lexis.specs.Lexer.{Token}
 use Rattle.syntax.specs.Tree.{Header, Call, Document}
 use Rattle.lists.specs.Names.{allUsed}
 use Rattle.documents.specs.Tables.{callRecord, callTable, assigner, wireTable}
-use Rattle.documents.specs.Naming.{Entry, numberOf}
+use Rattle.documents.specs.Naming.{Entry, entryNumber}
 
 -- ---- layout
 
@@ -49,7 +49,7 @@ wired a k = cond (eqb a 0) 0 (cond (ltb k a) 0 (a - 1))
 
 -- the words of a use in a call that k calls come before
 abbrev pub useWords : List Entry → ℕ → Token → List ℕ
-useWords made k t = t .start ∷ wired (numberOf made (t .bytes)) k ∷ []
+useWords made k t = t .start ∷ wired (entryNumber made (t .bytes)) k ∷ []
 
 -- the wires of these uses, the first of which is number u
 unfoldable pub wiresStored : List Entry → ℕ → List ℕ → ℕ → List Token → List ℕ
@@ -63,7 +63,7 @@ abbrev pub wireOf : List Call → Token → List ℕ
 wireOf cs t = t .start ∷ assigner cs t ∷ []
 
 -- the records of the calls ds and of their wires stand there, whatever calls follow
-pub record Recorded (records : List ℕ) (hs : List Header) (ds : List Call) : Type 0 where
+pub record TablesRecorded (records : List ℕ) (hs : List Header) (ds : List Call) : Type 0 where
   pub few : length ds ≤ maxCalls
   pub uses : length (allUsed ds) ≤ maxUses
   pub called : Stored records 0 (flatMap (callRecord hs) ds)

@@ -41,7 +41,7 @@ pub record Copied (words : List ℕ) (k : ℕ) (o : Operation) : Type 0 where
   pub code : o .code ≡ operationWord words k 5
 
 -- its parameters have their records in the directory, and are no more than may be
-pub record Recorded (words : List ℕ) (o : Operation) : Type 0 where
+pub record ParamsRecorded (words : List ℕ) (o : Operation) : Type 0 where
   pub few : o .count ≤ maxParameters
   pub room : firstParameter + (o .first + o .count) * parameterWords ≤ length words
 
@@ -156,8 +156,8 @@ abbrev pub EndsAt : List ℕ → List ℕ → ℕ → ℕ → ℕ → Type 0
 EndsAt text table n v r = (x : Value) (us : List Token) → value both maxBrackets (toks text table n v) ≡ ok x us → us ≡ toks text table n r
 
 -- the value at place v, tested against parameter j of the directory
-abbrev pub OfParameter : List ℕ → List ℕ → ℕ → ℕ → List ℕ → List ℕ → List ℕ → ℕ → ℕ → ℕ → Type 0
-OfParameter dtext dtable dn v ltext ltable words ln j r =
+abbrev pub FitsParameter : List ℕ → List ℕ → ℕ → ℕ → List ℕ → List ℕ → List ℕ → ℕ → ℕ → ℕ → Type 0
+FitsParameter dtext dtable dn v ltext ltable words ln j r =
     (p : Param) (x : Value) (us : List Token) → ParameterAt ltext ltable words ln j p → value both maxBrackets (toks dtext dtable dn v) ≡ ok x us
     → Fitted dtext dtable dn (fits x (p .ty)) us r
 

@@ -31,8 +31,8 @@ ghost use Rattle.lists.specs.Fault.{fault};
 ghost use Rattle.lists.specs.Best.{meant};
 ghost use Rattle.lists.specs.Fitting.{Within};
 ghost use Rattle.lists.specs.Directory.{firstParameter, parameterWords, parameterWord};
-ghost use Rattle.documents.specs.Tallies.{Recorded, NamesBelow, speltAt, NumberOf, AimInside, Grown, Onward};
-ghost use Rattle.documents.specs.Tallies.{OfPlace, OfLabel, OfArgument, EndsAt, OfParameter, OfBound, OfOne, OfAll};
+ghost use Rattle.documents.specs.Tallies.{ParamsRecorded, NamesBelow, speltAt, NumberOf, AimInside, Grown, Onward};
+ghost use Rattle.documents.specs.Tallies.{OfPlace, OfLabel, OfArgument, EndsAt, FitsParameter, OfBound, OfOne, OfAll};
 
 // What the arguments before a place amount to: their first fault, the mask of the parameters that they bind, whether none of them is named, how many there
 // are, the parameter after the one bound last, and the place they go on at.
@@ -67,7 +67,7 @@ fn is_spelt(ltext: &[u8], ltable: &[u32], ln: usize, words: &[u32], j: usize, w:
 // The number of the first parameter of the operation that is spelt w, or their count.
 fn search(ltext: &[u8], ltable: &[u32], ln: usize, words: &[u32], o: Operation, w: &[u8]) -> usize
     requires { ⌜ Holds (now ltext) (now ltable) ln ⌝ }
-    requires { ⌜ Recorded (now words) o ⌝ }
+    requires { ⌜ ParamsRecorded (now words) o ⌝ }
     requires { ⌜ NamesBelow (now words) ln o ⌝ }
     ensures { λ r. ⌜ NumberOf (now (ltext .entry)) (now (ltable .entry)) (now (words .entry)) o (now (w .entry)) r ⌝ }
 {
@@ -92,7 +92,7 @@ pub fn number_of(
     guess: usize,
 ) -> usize
     requires { ⌜ Holds (now ltext) (now ltable) ln ⌝ }
-    requires { ⌜ Recorded (now words) o ⌝ }
+    requires { ⌜ ParamsRecorded (now words) o ⌝ }
     requires { ⌜ NamesBelow (now words) ln o ⌝ }
     ensures { λ r. ⌜ NumberOf (now (ltext .entry)) (now (ltable .entry)) (now (words .entry)) o (now (w .entry)) r ⌝ }
 {
@@ -107,7 +107,7 @@ pub fn number_of(
 
 // What a positional argument at the tally's place is for.
 fn positional(words: &[u32], o: Operation, t: Tally) -> Aim
-    requires { ⌜ Recorded (now words) o ⌝ }
+    requires { ⌜ ParamsRecorded (now words) o ⌝ }
     ensures range { λ r. ⌜ AimInside o (t .at) r ⌝ }
     ensures place { λ r. ⌜ r .value ≡ t .at ⌝ }
     ensures meaning { λ r. ⌜ OfPlace (now (words .entry)) o t r ⌝ }
@@ -150,7 +150,7 @@ fn named(
 ) -> Aim
     requires { ⌜ Holds (now dtext) (now dtable) dn ⌝ }
     requires { ⌜ Holds (now ltext) (now ltable) ln ⌝ }
-    requires { ⌜ Recorded (now words) o ⌝ }
+    requires { ⌜ ParamsRecorded (now words) o ⌝ }
     requires { ⌜ NamesBelow (now words) ln o ⌝ }
     requires { ⌜ t .at + 1 < dn ⌝ }
     ensures range { λ r. ⌜ AimInside o (t .at) r ⌝ }
@@ -194,7 +194,7 @@ fn aim_of(
 ) -> Aim
     requires { ⌜ Holds (now dtext) (now dtable) dn ⌝ }
     requires { ⌜ Holds (now ltext) (now ltable) ln ⌝ }
-    requires { ⌜ Recorded (now words) o ⌝ }
+    requires { ⌜ ParamsRecorded (now words) o ⌝ }
     requires { ⌜ NamesBelow (now words) ln o ⌝ }
     ensures range { λ r. ⌜ AimInside o (t .at) r ⌝ }
     ensures meaning { λ r. ⌜ OfArgument (now (dtext .entry)) (now (dtable .entry)) dn
@@ -254,7 +254,7 @@ fn fits_parameter(
     requires { ⌜ Holds (now ltext) (now ltable) ln ⌝ }
     requires { ⌜ (firstParameter + j * parameterWords + 2 < length (now words)) × (parameterWord (now words) j 0 < ln) ⌝ }
     ensures range { λ r. ⌜ Within dn v r ⌝ }
-    ensures meaning { λ r. ⌜ OfParameter (now (dtext .entry)) (now (dtable .entry)) dn v
+    ensures meaning { λ r. ⌜ FitsParameter (now (dtext .entry)) (now (dtable .entry)) dn v
         (now (ltext .entry)) (now (ltable .entry)) (now (words .entry)) ln j r ⌝ }
 {
     let t = name_of(words, j) + 2;
@@ -296,7 +296,7 @@ fn with_bound(
 ) -> Tally
     requires { ⌜ Holds (now dtext) (now dtable) dn ⌝ }
     requires { ⌜ Holds (now ltext) (now ltable) ln ⌝ }
-    requires { ⌜ Recorded (now words) o ⌝ }
+    requires { ⌜ ParamsRecorded (now words) o ⌝ }
     requires { ⌜ NamesBelow (now words) ln o ⌝ }
     requires { ⌜ (a .number < o .count) × (t .index ≤ dn) ⌝ }
     ensures range { λ r. ⌜ Onward dn (a .value) t r ⌝ }
@@ -329,7 +329,7 @@ fn with_argument(
 ) -> Tally
     requires { ⌜ Holds (now dtext) (now dtable) dn ⌝ }
     requires { ⌜ Holds (now ltext) (now ltable) ln ⌝ }
-    requires { ⌜ Recorded (now words) o ⌝ }
+    requires { ⌜ ParamsRecorded (now words) o ⌝ }
     requires { ⌜ NamesBelow (now words) ln o ⌝ }
     requires { ⌜ t .index ≤ dn ⌝ }
     ensures range { λ r. ⌜ Onward dn (t .at) t r ⌝ }
@@ -358,7 +358,7 @@ pub fn tally_all(
 ) -> Tally
     requires { ⌜ Holds (now dtext) (now dtable) dn ⌝ }
     requires { ⌜ Holds (now ltext) (now ltable) ln ⌝ }
-    requires { ⌜ Recorded (now words) o ⌝ }
+    requires { ⌜ ParamsRecorded (now words) o ⌝ }
     requires { ⌜ NamesBelow (now words) ln o ⌝ }
     requires { ⌜ at ≤ dn ⌝ }
     ensures range { λ r. ⌜ (min (at + 1) dn ≤ r .at) × (r .at ≤ dn) ⌝ }

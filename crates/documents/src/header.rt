@@ -17,7 +17,7 @@ ghost use Rattle.lexis.specs.Sizes.{maxTokens};
 ghost use Rattle.syntax.specs.Table.{tokenAt, toks, Holds};
 ghost use Rattle.index.specs.Indexed.{Walkable};
 ghost use Rattle.lists.specs.Scans.{namesAmong};
-ghost use Rattle.documents.specs.NameWalks.{Lists, Unassigned};
+ghost use Rattle.documents.specs.NameWalks.{ListsNames, Unassigned};
 
 // The input or output at place i, if there is one: beyond the size, or listed already. It is entered as what it is.
 fn listed_at(
@@ -35,7 +35,7 @@ fn listed_at(
     requires { ⌜ Walkable (now index) i n ⌝ }
     ensures { λ r. ⌜ r .count ≤ suc i ⌝ }
     ensures { λ _. ⌜ Walkable (now (index .exit)) (i + 1) n ⌝ }
-    ensures { λ r. ⌜ Lists (now (text .entry)) (now (table .entry)) (now (index .entry)) (now (index .exit)) i (i + 1) size which
+    ensures { λ r. ⌜ ListsNames (now (text .entry)) (now (table .entry)) (now (index .entry)) (now (index .exit)) i (i + 1) size which
         (namesAmong (tokenAt (now (text .entry)) (now (table .entry)) i ∷ [])) tally r ⌝ }
 {
     if symbol_at(text, table, n, i) != Symbol::NAME {
@@ -64,7 +64,7 @@ pub fn listed(
     requires { ⌜ (from ≤ to) × (to ≤ n) × (n ≤ maxTokens) × (0 < which) × (which < 65536) × (tally .count ≤ from) ⌝ }
     requires { ⌜ Walkable (now index) from n ⌝ }
     ensures { λ _. ⌜ Walkable (now (index .exit)) to n ⌝ }
-    ensures { λ r. ⌜ Lists (now (text .entry)) (now (table .entry)) (now (index .entry)) (now (index .exit)) from to size which
+    ensures { λ r. ⌜ ListsNames (now (text .entry)) (now (table .entry)) (now (index .entry)) (now (index .exit)) from to size which
         (namesAmong (toks (now (text .entry)) (now (table .entry)) to from)) tally r ⌝ }
 {
     let mut sum = tally;

@@ -23,7 +23,7 @@ pub record Mapped (text table index : List ℕ) (k : ℕ) (f : Words) : Type 0 w
   pub fresh : (i p : ℕ) → i < nameWords → k ≤ p → wordAt index p i ≡ 0
 
 -- and the name spelt w is entered at place p
-pub record Placed (text table index : List ℕ) (k : ℕ) (f : Words) (w : List ℕ) (p : ℕ) : Type 0 where
+pub record EnteredAt (text table index : List ℕ) (k : ℕ) (f : Words) (w : List ℕ) (p : ℕ) : Type 0 where
   pub mapped : Mapped text table index k f
   pub place : foundIn text table (mapped .places) w ≡ p + 1
 
@@ -61,4 +61,4 @@ LooksUp text table index w i r = (k : ℕ) (f : Words) → Mapped text table ind
 -- `enter` answers r for the name at place t, and leaves this index: the map is as it was, and the name is entered at place r
 abbrev pub Enters : List ℕ → List ℕ → List ℕ → List ℕ → ℕ → ℕ → Type 0
 Enters text table index index' t r =
-    (k : ℕ) (f : Words) → k ≤ t → Mapped text table index k f → Placed text table index' (t + 1) f (bytesAt text table t) r
+    (k : ℕ) (f : Words) → k ≤ t → Mapped text table index k f → EnteredAt text table index' (t + 1) f (bytesAt text table t) r

@@ -26,7 +26,7 @@ use Rattle.syntax.proofs.Table.{toks-more, toks-rest}
 use Rattle.lists.specs.Reading.{fits}
 use Rattle.lists.specs.declared.types.TypeAt.{TypeAt}
 use Rattle.lists.specs.Types.{kindsOf, OfType}
-use Rattle.lists.specs.Fitting.{leafFits, leafFitsAt, isLeaf, stacked, Several, IsBase, NoPair, Columns, InArray, fitsAll, fitsEach}
+use Rattle.lists.specs.Fitting.{leafFits, leafFitsAt, isLeafSymbol, stacked, Several, IsBase, NoPair, Columns, InArray, fitsAll, fitsEach}
 use Rattle.lists.specs.Fitting.{Within, Fitted, leafAnswer, BaseOf, OfValue, OfArray, OfEach}
 use Rattle.lists.specs.Fitting.Columns.{last-column, next-column}
 use Rattle.lists.specs.Fitting.InArray.{no-items, some-items}
@@ -99,10 +99,10 @@ literal-look {t = t} {s = s} p f h =
     (omega (arith, q .0, y), omega (arith, q .1, y))
 
 -- the terminals of leaves lie together, above those of brackets
-leaf-between : (s : ℕ) → aName ≤ s → s ≤ aLiteral → isLeaf s ≡ true
+leaf-between : (s : ℕ) → aName ≤ s → s ≤ aLiteral → isLeafSymbol s ≡ true
 leaf-between s h l = simp (le-ltb s aName h, le-leb s aLiteral l)
 
-leaf-bracket : (s : ℕ) → s < aName → isLeaf s ≡ true → ⊥
+leaf-bracket : (s : ℕ) → s < aName → isLeafSymbol s ≡ true → ⊥
 leaf-bracket s h e = let q : false ≡ true = simp (lt-ltb s aName h) at e in clash cc
 
 -- what stands behind the first token
@@ -173,14 +173,14 @@ module _ (text table : List ℕ) (n i : ℕ) (ttext ttable : List ℕ) (tn t k s
       go (a-tuple-seen p f x) = flat flat-tuple
 
   -- the terminal of a leaf
-  name-seen : {x : Token} {us : List Token} → toks text table n i ≡ x ∷ us → symOf x ≡ aName → isLeaf s ≡ true
-  name-seen p f = ap isLeaf (look p f sees)
+  name-seen : {x : Token} {us : List Token} → toks text table n i ≡ x ∷ us → symOf x ≡ aName → isLeafSymbol s ≡ true
+  name-seen p f = ap isLeafSymbol (look p f sees)
 
-  literal-seen : {x : Token} {us : List Token} → toks text table n i ≡ x ∷ us → isLiteral (symOf x) ≡ true → isLeaf s ≡ true
-  literal-seen {x} p f = let q = literal-range (symOf x) f in ap isLeaf (sees ∙ ap lookahead p) ∙ leaf-between (symOf x) (omega (arith, q .0)) (q .1)
+  literal-seen : {x : Token} {us : List Token} → toks text table n i ≡ x ∷ us → isLiteral (symOf x) ≡ true → isLeafSymbol s ≡ true
+  literal-seen {x} p f = let q = literal-range (symOf x) f in ap isLeafSymbol (sees ∙ ap lookahead p) ∙ leaf-between (symOf x) (omega (arith, q .0)) (q .1)
 
   -- neither a leaf nor an array: a tuple, at a tuple type
-  module _ (flat : k ≡ 0) (nested : isLeaf s ≡ false) (e : s ≡ leftSquare → ⊥) (o : ℕ) (type-sees : o ≡ lookahead (toks ttext ttable tn t)) where
+  module _ (flat : k ≡ 0) (nested : isLeafSymbol s ≡ false) (e : s ≡ leftSquare → ⊥) (o : ℕ) (type-sees : o ≡ lookahead (toks ttext ttable tn t)) where
     pub tuple-word : (s ≡ leftRound → o ≡ leftRound → ⊥) → Never
     tuple-word d m b v us c w ws g h = go (seen g)
       where
@@ -216,7 +216,7 @@ module _ (text table : List ℕ) (n i : ℕ) (ttext ttable : List ℕ) (tn t k s
       go (a-tuple-seen p f x) = absurd (omega (arith, look p f sees))
 
   -- a leaf
-  module _ (holds : Holds text table n) (bytes : (j : ℕ) → getD text j 0 < 256) (h : i < n) (leaf : isLeaf s ≡ true) where
+  module _ (holds : Holds text table n) (bytes : (j : ℕ) → getD text j 0 < 256) (h : i < n) (leaf : isLeafSymbol s ≡ true) where
     leaf-is : (kinds : ℕ) → k ≡ 0 → (m : Leaves) (b : ℕ) (v : Value) (us : List Token) (c : ℕ) (w : Ty) (ws : List Token)
         → Spells m b (toks text table n i) v us
         → BaseOf kinds c (toks ttext ttable tn t) w ws → (fits v (stacked k w) ≡ leafFitsAt text table i kinds) × (us ≡ toks text table n (i + 1))
@@ -229,7 +229,7 @@ module _ (text table : List ℕ) (n i : ℕ) (ttext ttable : List ℕ) (tn t k s
         onto p = ap (λ (y : Token). leafFits (kindsOf w) (y .kind) (y .bytes)) p ∙ ap (λ (j : ℕ). leafFitsAt text table i j) (sym (q .takes))
 
         kinded : {x : Token} → x ≡ tokenAt text table i → symOf x ≡ s → LeafKind (x .kind) (symOf x)
-        kinded {x} p f = leaf-kind x (rw p (first-byte text table n i holds h bytes)) (ap isLeaf f ∙ leaf)
+        kinded {x} p f = leaf-kind x (rw p (first-byte text table n i holds h bytes)) (ap isLeafSymbol f ∙ leaf)
 
         go : {v : Value} {us : List Token} → Seen m (toks text table n i) v us
             → (fits v (stacked k w) ≡ leafFitsAt text table i kinds) × (us ≡ toks text table n (i + 1))

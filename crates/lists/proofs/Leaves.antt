@@ -26,7 +26,7 @@ use Rattle.syntax.proofs.Row.{cond-has}
 use Rattle.syntax.proofs.Right.{choice}
 use Rattle.lists.specs.Reading.{Val, where-true, nameAt, literalAt, isSome, readAt, fits}
 use Rattle.lists.specs.Types.{extentKinds, takes, kindsOf}
-use Rattle.lists.specs.Fitting.{leafFits, leafFitsAt, isLeaf, IsBase}
+use Rattle.lists.specs.Fitting.{leafFits, leafFitsAt, isLeafSymbol, IsBase}
 use Rattle.lists.specs.Fitting.IsBase.{a-word, a-tuple-base}
 
 clash : _≡_ {A = ℕ} 0 1 → ⊥
@@ -35,7 +35,7 @@ clash z = omega arith
 -- ---- the kinds of leaves
 
 -- no keyword is seen as a leaf
-keyword-no-leaf : (w : List ℕ) → isLeaf (keywordSymbol w) ≡ false
+keyword-no-leaf : (w : List ℕ) → isLeafSymbol (keywordSymbol w) ≡ false
 unfolding terminals symbolIn
 keyword-no-leaf w =
     none (sameBytes w (ascii "version")) version _ refl
@@ -46,14 +46,14 @@ keyword-no-leaf w =
     (none (sameBytes w (ascii "scalar")) scalarWord _ refl
     (none (sameBytes w (ascii "logical")) logicalWord _ refl (none (sameBytes w (ascii "string")) stringWord other refl refl)))))))
   where
-    none : (c : Bool) (s t : ℕ) → isLeaf s ≡ false → isLeaf t ≡ false → isLeaf (cond c s t) ≡ false
-    none c s t p q = cond-has (λ (x : ℕ). isLeaf x ≡ false) c p q
+    none : (c : Bool) (s t : ℕ) → isLeafSymbol s ≡ false → isLeafSymbol t ≡ false → isLeafSymbol (cond c s t) ≡ false
+    none c s t p q = cond-has (λ (x : ℕ). isLeafSymbol x ≡ false) c p q
 
 pub keyword-not : (w : List ℕ) → keywordSymbol w ≡ aName → ⊥
-keyword-not w e = let q : true ≡ false = sym (ap isLeaf e) ∙ keyword-no-leaf w in clash (cc)
+keyword-not w e = let q : true ≡ false = sym (ap isLeafSymbol e) ∙ keyword-no-leaf w in clash (cc)
 
 -- nor is a byte
-byte-no-leaf : (s : ℕ) → s < aName → isLeaf s ≡ false
+byte-no-leaf : (s : ℕ) → s < aName → isLeafSymbol s ≡ false
 byte-no-leaf s h = simp (lt-ltb s aName h)
 
 -- the kind of a leaf, beside its terminal
@@ -65,7 +65,7 @@ pub data LeafKind : ℕ → ℕ → Type 0 where
   truth-kind : LeafKind Kind.truth aLiteral
 
 -- a syntactic character is seen as its first byte
-pub leaf-kind : (t : Token) → getD (t .bytes) 0 0 < 256 → isLeaf (symOf t) ≡ true → LeafKind (t .kind) (symOf t)
+pub leaf-kind : (t : Token) → getD (t .bytes) 0 0 < 256 → isLeafSymbol (symOf t) ≡ true → LeafKind (t .kind) (symOf t)
 unfolding symOf symbolOf
 leaf-kind t l =
     choice Kinded (eqb (t .kind) Kind.name) (λ e. is-kind e name-kind) (λ _.
@@ -77,12 +77,12 @@ leaf-kind t l =
     choice Kinded (eqb (t .kind) Kind.syntactic) (λ _. no-kind (byte-no-leaf (getD (t .bytes) 0 0) l)) (λ _. no-kind refl)))))))
   where
     Kinded : ℕ → Type 0
-    Kinded s = isLeaf s ≡ true → LeafKind (t .kind) s
+    Kinded s = isLeafSymbol s ≡ true → LeafKind (t .kind) s
 
     is-kind : {k s : ℕ} → eqb (t .kind) k ≡ true → LeafKind k s → Kinded s
     is-kind {k} {s} e h z = subst (λ (j : ℕ). LeafKind j s) (sym (eqb-true (t .kind) k e)) h
 
-    no-kind : {s : ℕ} → isLeaf s ≡ false → Kinded s
+    no-kind : {s : ℕ} → isLeafSymbol s ≡ false → Kinded s
     no-kind e z = absurd (clash (cc))
 
 -- the first byte of a token is a byte of the text

@@ -13,13 +13,13 @@ use Rattle.lexis.specs.Lexer.{Token}
 use Rattle.syntax.specs.Tree.{Header}
 use Rattle.syntax.specs.Table.{tokenAt}
 use Rattle.index.specs.Layout.{nameWords, wordPlace, wordAt}
-use Rattle.index.specs.Mapped.{Placed, both, changed, Enters, LooksUp}
+use Rattle.index.specs.Mapped.{EnteredAt, both, changed, Enters, LooksUp}
 use Rattle.index.proofs.Spellings.{same-is}
 use Rattle.index.proofs.Theorems.{empty-mapped, mapped-as, word-placed, first-set, second-set}
 use Rattle.lists.specs.Names.{isAmong}
 use Rattle.lists.specs.Found.{found}
 use Rattle.lists.specs.Lists.{lookupFrom}
-use Rattle.lists.specs.Headers.{numberOf, Numbered, Names, Marks, Numbers}
+use Rattle.lists.specs.Headers.{lookupNumber, Numbered, Names, Marks, Numbers}
 use Rattle.lists.specs.declared.directory.Lookup.{Lookup}
 use Rattle.lists.specs.declared.directory.Lookup.the-variants.{At, Missing}
 use Rattle.lists.proofs.Directories.{at-among, missing-among, names-found}
@@ -50,11 +50,11 @@ orElse zero b = b
 orElse (suc a) b = suc a
 
 number-more : (k : ℕ) (ss : List Token) (s t : Token)
-    → numberOf (lookupFrom k (ss ++ (s ∷ [])) t) ≡ orElse (numberOf (lookupFrom k ss t)) (cond (sameBytes (s .bytes) (t .bytes)) (suc (k + length ss)) 0)
+    → lookupNumber (lookupFrom k (ss ++ (s ∷ [])) t) ≡ orElse (lookupNumber (lookupFrom k ss t)) (cond (sameBytes (s .bytes) (t .bytes)) (suc (k + length ss)) 0)
 unfolding lookupFrom
 number-more k [] s t = let z : k ≡ k + 0 = omega arith in go (sameBytes (s .bytes) (t .bytes)) z
   where
-    go : (b : Bool) {m : ℕ} → k ≡ m → numberOf (cond b (At k) Missing) ≡ cond b (suc m) 0
+    go : (b : Bool) {m : ℕ} → k ≡ m → lookupNumber (cond b (At k) Missing) ≡ cond b (suc m) 0
     go true e = ap suc e
     go false e = refl
 number-more k (x ∷ ss) s t = go (sameBytes (x .bytes) (t .bytes)) (number-more (suc k) ss s t)
@@ -63,16 +63,16 @@ number-more k (x ∷ ss) s t = go (sameBytes (x .bytes) (t .bytes)) (number-more
     z = omega arith
 
     go : (b : Bool)
-        → numberOf (lookupFrom (suc k) (ss ++ (s ∷ [])) t) ≡ orElse (numberOf (lookupFrom (suc k) ss t))
+        → lookupNumber (lookupFrom (suc k) (ss ++ (s ∷ [])) t) ≡ orElse (lookupNumber (lookupFrom (suc k) ss t))
         (cond (sameBytes (s .bytes) (t .bytes)) (suc (suc k + length ss)) 0)
-        → numberOf (cond b (At k) (lookupFrom (suc k) (ss ++ (s ∷ [])) t))
-        ≡ orElse (numberOf (cond b (At k) (lookupFrom (suc k) ss t))) (cond (sameBytes (s .bytes) (t .bytes)) (suc (k + suc (length ss))) 0)
+        → lookupNumber (cond b (At k) (lookupFrom (suc k) (ss ++ (s ∷ [])) t))
+        ≡ orElse (lookupNumber (cond b (At k) (lookupFrom (suc k) ss t))) (cond (sameBytes (s .bytes) (t .bytes)) (suc (k + suc (length ss))) 0)
     go true e = refl
-    go false e = e ∙ ap (λ (m : ℕ). orElse (numberOf (lookupFrom (suc k) ss t)) (cond (sameBytes (s .bytes) (t .bytes)) (suc m) 0)) z
+    go false e = e ∙ ap (λ (m : ℕ). orElse (lookupNumber (lookupFrom (suc k) ss t)) (cond (sameBytes (s .bytes) (t .bytes)) (suc m) 0)) z
 
 -- a name has a number where it is among those numbered
 numbered-among : (ss : List Token) (t : Token) (l : Lookup) → lookupFrom 0 ss t ≡ l
-    → (numberOf l ≡ 0 → isAmong ss t ≡ false) × ((numberOf l ≡ 0 → ⊥) → isAmong ss t ≡ true)
+    → (lookupNumber l ≡ 0 → isAmong ss t ≡ false) × ((lookupNumber l ≡ 0 → ⊥) → isAmong ss t ≡ true)
 numbered-among ss t (At k) e = ((λ z. absurd (omega arith)), λ z. at-among 0 k ss t e)
 numbered-among ss t Missing e = ((λ z. missing-among 0 ss t e), λ z. absurd (z refl))
 
@@ -137,7 +137,7 @@ module _ (text table index index₁ : List ℕ) (i k p : ℕ) (entered : Enters 
       };
     }
       where
-        at : {ops : List Token} (m : Numbered text table index i k ops) → Placed text table index₁ (i + 1) (both (m .number) (m .mark)) (spelt text table i) p
+        at : {ops : List Token} (m : Numbered text table index i k ops) → EnteredAt text table index₁ (i + 1) (both (m .number) (m .mark)) (spelt text table i) p
         at m = entered (m .below) (both (m .number) (m .mark)) (m .low) (m .mapped)
 
         below : (x : ℕ) (b : Bool) → x ≤ k → cond b k x ≤ k
@@ -154,10 +154,10 @@ module _ (text table index index₁ : List ℕ) (i k p : ℕ) (entered : Enters 
 
   -- its number
   module _ {ops : List Token} (m : Numbered text table index i k ops) where
-    there : Placed text table index₁ (i + 1) (both (m .number) (m .mark)) (spelt text table i) p
+    there : EnteredAt text table index₁ (i + 1) (both (m .number) (m .mark)) (spelt text table i) p
     there = entered (m .below) (both (m .number) (m .mark)) (m .low) (m .mapped)
 
-    number-there : wordAt index₁ p 0 ≡ numberOf (lookupFrom 0 ops (tokenAt text table i))
+    number-there : wordAt index₁ p 0 ≡ lookupNumber (lookupFrom 0 ops (tokenAt text table i))
     number-there = word-placed there 0 (omega arith) ∙ m .numbered (tokenAt text table i)
 
     -- a spelling that is that of the name has its number
@@ -239,13 +239,13 @@ module _ (text table index index₁ : List ℕ) (i k p : ℕ) (entered : Enters 
 -- ---- what a look-up finds
 
 pub looked-up : {text table index : List ℕ} {n k r : ℕ} (hs : List Header) (t : Token) → LooksUp text table index (t .bytes) 0 r
-    → Numbered text table index n k (map (λ (h : Header). h .name) hs) → r ≡ numberOf (found hs t)
-looked-up hs t look m = look (m .below) (both (m .number) (m .mark)) (m .mapped) ∙ m .numbered t ∙ ap numberOf (names-found hs t)
+    → Numbered text table index n k (map (λ (h : Header). h .name) hs) → r ≡ lookupNumber (found hs t)
+looked-up hs t look m = look (m .below) (both (m .number) (m .mark)) (m .mapped) ∙ m .numbered t ∙ ap lookupNumber (names-found hs t)
 
-pub found-none : (l : Lookup) → numberOf l ≡ 0 → Missing ≡ l
+pub found-none : (l : Lookup) → lookupNumber l ≡ 0 → Missing ≡ l
 found-none (At k) e = absurd (omega arith)
 found-none Missing e = refl
 
-pub found-some : (l : Lookup) (r : ℕ) → numberOf l ≡ r → (r ≡ 0 → ⊥) → At (r - 1) ≡ l
+pub found-some : (l : Lookup) (r : ℕ) → lookupNumber l ≡ r → (r ≡ 0 → ⊥) → At (r - 1) ≡ l
 found-some (At k) r e h = let z : r - 1 ≡ k = omega arith in ap At z
 found-some Missing r e h = absurd (h (sym e))

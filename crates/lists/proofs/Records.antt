@@ -15,7 +15,7 @@ use Rattle.lists.specs.Masks.{maskOf, isRequired}
 use Rattle.lists.specs.Types.{typeCode, resultCode}
 use Rattle.lists.specs.Directory.{firstParameter, operationWords, parameterWords, operationWord, parameterWord, DefaultAt, ParameterAt, ParametersAt}
 use Rattle.lists.specs.Directory.{no-parameter, a-parameter, OperationAt}
-use Rattle.lists.specs.Headers.{resultRow, Kept}
+use Rattle.lists.specs.Headers.{resultRow, WordsKept}
 
 -- ---- a run of stores
 
@@ -106,7 +106,7 @@ module _ (text table : List ℕ) (n : ℕ) where
         code = w 5 (omega arith) ∙ coded;
       }
 
-  pub operation-kept : {words words' : List ℕ} {k p : ℕ} {h : Header} → k < maxOperations → operationWord words k 2 ≡ p → Kept words words' (suc k) p
+  pub operation-kept : {words words' : List ℕ} {k p : ℕ} {h : Header} → k < maxOperations → operationWord words k 2 ≡ p → WordsKept words words' (suc k) p
       → OperationAt text table words n k h → OperationAt text table words' n k h
   operation-kept {words} {words'} {k} {p} {h} small last kept a =
       let w : (f : ℕ) → f < 6 → operationWord words' k f ≡ operationWord words k f = λ f l. kept .operations (k * operationWords + f) (omega arith)

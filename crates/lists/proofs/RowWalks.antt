@@ -30,7 +30,7 @@ use Rattle.lists.specs.Masks.{maskOf, isRequired}
 use Rattle.lists.specs.Types.{kindsOf, pairsOf, typeCode, OfType}
 use Rattle.lists.specs.Directory.{firstParameter, parameterWords, DefaultAt, no-default, a-default, ParametersAt, no-parameter, a-parameter}
 use Rattle.lists.specs.Walks.{when}
-use Rattle.lists.specs.Headers.{Reads, paramRow, resultRow, Roomy, Ready, onwardRow, Judge, rowFaults, ofParams, ofResults, Marks, Judged, Stored}
+use Rattle.lists.specs.Headers.{Reads, paramRow, resultRow, Roomy, Ready, onwardRow, Judge, rowFaults, ofParams, ofResults, Marks, Judged, ParamsStored}
 use Rattle.lists.specs.Headers.{OfDefault, OfParameter, OfParameters, OfResult, OfResults, Carried}
 use Rattle.lists.specs.declared.best.Best.{Best}
 use Rattle.lists.specs.declared.headers.Row.{Row}
@@ -189,12 +189,12 @@ module _ {text table index index₁ words words₁ : List ℕ} {n k : ℕ} {r : 
 -- ---- rows of parameters
 
 module _ {text table words words' : List ℕ} {n : ℕ} {r r₁ : Row} where
-  stored-onward : {ps : List Param} → Stored text table words words' n r r₁ ps → Stored text table words words' n r (onwardRow r₁) ps
+  stored-onward : {ps : List Param} → ParamsStored text table words words' n r r₁ ps → ParamsStored text table words words' n r (onwardRow r₁) ps
   stored-onward s = record { count = s .count; records = s .records; kept = s .kept; flags = s .flags }
 
 stored-more : {text table words words₁ words' : List ℕ} {n : ℕ} {r r₁ r' : Row} {p : Param} {ps : List Param}
-    → Stored text table words words₁ n r r₁ (p ∷ []) → r₁ .index ≡ r .index + 1 → Stored text table words₁ words' n (onwardRow r₁) r' ps
-    → Stored text table words words' n r r' (p ∷ ps)
+    → ParamsStored text table words words₁ n r r₁ (p ∷ []) → r₁ .index ≡ r .index + 1 → ParamsStored text table words₁ words' n (onwardRow r₁) r' ps
+    → ParamsStored text table words words' n r r' (p ∷ ps)
 stored-more {text} {table} {words} {words₁} {words'} {n} {r} {r₁} {r'} {p} {ps} s c m = record {
   count = let a = s .count in let b = m .count in omega arith;
   records = go (s .records);

@@ -34,8 +34,8 @@ abbrev pub leafFitsAt : List ℕ → List ℕ → ℕ → ℕ → Bool
 leafFitsAt text table i kinds = leafFits kinds (tokenAt text table i .kind) (tokenAt text table i .bytes)
 
 -- the terminal s is a leaf
-abbrev pub isLeaf : ℕ → Bool
-isLeaf s = cond (ltb s aName) false (leb s aLiteral)
+abbrev pub isLeafSymbol : ℕ → Bool
+isLeafSymbol s = cond (ltb s aName) false (leb s aLiteral)
 
 -- ---- types
 
@@ -191,7 +191,7 @@ OfWhole text table n i u r =
     (m : Leaves) (b : ℕ) (v : Value) (e : Token) (us : List Token) → Spells m b (toks text table n i) v (e ∷ us) → r ≡ (fits v u && eqb (symOf e) equal)
 
 -- whatever left side and results are read at place i and before ts, with this number for the results, the one matches the other
-abbrev pub OfResults : List ℕ → List ℕ → ℕ → ℕ → List Token → ℕ → Bool → Type 0
-OfResults text table n i ts code r =
+abbrev pub MatchesResults : List ℕ → List ℕ → ℕ → ℕ → List Token → ℕ → Bool → Type 0
+MatchesResults text table n i ts code r =
     (b : ℕ) (v : Value) (us : List Token) (c : ℕ) (rs : List Result) (ws : List Token) → left b (toks text table n i) ≡ ok v us
     → row plain (commas rightRound) (result c) ts ≡ ok rs ws → code ≡ resultCode rs → r ≡ fits v (resultType rs)

@@ -107,9 +107,9 @@ ofHeaders = record { size = maxOperations; place = λ h. h .keyword .start; name
 -- ---- names
 
 -- a number for what a look-up answers, counted from 1
-abbrev pub numberOf : Lookup → ℕ
-numberOf (At k) = suc k
-numberOf Missing = 0
+abbrev pub lookupNumber : Lookup → ℕ
+lookupNumber (At k) = suc k
+lookupNumber Missing = 0
 
 -- an index of names that stand before a place: the number of a name is that of the first of the operations named so, its mark is that of a header up to k
 pub record Numbered (text table index : List ℕ) (at k : ℕ) (ops : List Token) : Type 0 where
@@ -118,7 +118,7 @@ pub record Numbered (text table index : List ℕ) (at k : ℕ) (ops : List Token
   pub number : List ℕ → ℕ
   pub mark : List ℕ → ℕ
   pub mapped : Mapped text table index below (both number mark)
-  pub numbered : (t : Token) → number (t .bytes) ≡ numberOf (lookupFrom 0 ops t)
+  pub numbered : (t : Token) → number (t .bytes) ≡ lookupNumber (lookupFrom 0 ops t)
   pub older : (w : List ℕ) → mark w ≤ k
 
 -- and it is k for the names ss
@@ -148,7 +148,7 @@ pub record Judged {A : Type 0} (j : Judge A) (text table index index' : List ℕ
       → meant (r' .best) ≡ earlier (meant (r .best)) (first (rowFaults j qs ss xs))
 
 -- the records of parameters that it stores: those of ps behind the others, which stay
-pub record Stored (text table words words' : List ℕ) (n : ℕ) (r r' : Row) (ps : List Param) : Type 0 where
+pub record ParamsStored (text table words words' : List ℕ) (n : ℕ) (r r' : Row) (ps : List Param) : Type 0 where
   pub count : r' .params ≡ r .params + length ps
   pub records : ParametersAt text table words' n (r .params) ps
   pub kept : (i : ℕ) → i < firstParameter + r .params * parameterWords → getD words' i 0 ≡ getD words i 0
@@ -170,7 +170,7 @@ OfDefault text table n t ty r =
 pub record ParametersRead (text table index index' words words' : List ℕ) (n k : ℕ) (r r' : Row) (ps : List Param) (us : List Token) : Type 0 where
   pub left : us ≡ toks text table n (r' .at)
   pub judged : Judged ofParams text table index index' k r r' ps
-  pub stored : Stored text table words words' n r r' ps
+  pub stored : ParamsStored text table words words' n r r' ps
 
 abbrev pub OfParameter : List ℕ → List ℕ → List ℕ → List ℕ → List ℕ → List ℕ → ℕ → ℕ → Row → Row → Type 0
 OfParameter text table index index' words words' n k r r' =
@@ -203,7 +203,7 @@ pub record Carried (r r' : Row) : Type 0 where
 -- ---- headers
 
 -- the words of the operations below k, and of the parameters below p, stay
-pub record Kept (words words' : List ℕ) (k p : ℕ) : Type 0 where
+pub record WordsKept (words words' : List ℕ) (k p : ℕ) : Type 0 where
   pub operations : (i : ℕ) → i < k * operationWords → i < firstParameter → getD words' i 0 ≡ getD words i 0
   pub parameters : (i : ℕ) → firstParameter ≤ i → i < firstParameter + p * parameterWords → getD words' i 0 ≡ getD words i 0
 
@@ -215,7 +215,7 @@ pub record HeaderRead (text table index index' words words' : List ℕ) (n k : �
       → Numbered text table index' (r' .at) (k + 1) (ops ++ (h .name ∷ []))
   pub faulted : (ops : List Token) → Numbered text table index (r .at) k ops → length ops ≡ k
       → meant (r' .best) ≡ earlier (meant (r .best)) (first (itemFaults ofHeaders [] ops h))
-  pub kept : Kept words words' k (r .params)
+  pub kept : WordsKept words words' k (r .params)
   pub stored : k < maxOperations → length (h .params) ≤ maxParameters → OperationAt text table words' n k h
   pub last : k < maxOperations → operationWord words' k 2 ≡ r' .params
 
@@ -230,7 +230,7 @@ pub record HeadersRead (text table index index' words words' : List ℕ) (n k : 
       → Numbered text table index' n (r' .count) (ops ++ map (λ (h : Header). h .name) hs)
   pub faulted : (ops : List Token) → Numbered text table index (r .at) k ops → length ops ≡ k
       → meant (r' .best) ≡ earlier (meant (r .best)) (first (rowFaults ofHeaders [] ops hs))
-  pub kept : Kept words words' k (r .params)
+  pub kept : WordsKept words words' k (r .params)
   pub stored : k + length hs ≤ maxOperations → first (flatMap headerFaults hs) ≡ nothing → OperationsAt text table words' n k hs
 
 abbrev pub OfHeaders : List ℕ → List ℕ → List ℕ → List ℕ → List ℕ → List ℕ → ℕ → ℕ → Row → Ruled → Type 0

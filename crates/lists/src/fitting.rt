@@ -24,8 +24,8 @@ ghost use Rattle.syntax.specs.Tree.{Ty, Tys};
 ghost use Rattle.syntax.specs.Tree.Ty.{tupleOf};
 ghost use Rattle.syntax.specs.Table.{toks, Holds};
 ghost use Rattle.syntax.specs.Inner.{theEnd};
-ghost use Rattle.lists.specs.Fitting.{leafFitsAt, isLeaf, leafAnswer, stacked, Several, Columns, OfShape};
-ghost use Rattle.lists.specs.Fitting.{Within, isWhole, OfItem, BaseOf, OfValue, OfArray, OfEach, OfLeft, OfWhole, OfResults};
+ghost use Rattle.lists.specs.Fitting.{leafFitsAt, isLeafSymbol, leafAnswer, stacked, Several, Columns, OfShape};
+ghost use Rattle.lists.specs.Fitting.{Within, isWhole, OfItem, BaseOf, OfValue, OfArray, OfEach, OfLeft, OfWhole, MatchesResults};
 
 // The answer of the functions here is the place after the value where it fits, which is never 0, and 0 where not. Numbers cross a call in
 // a register, and these functions call each other for every bracket.
@@ -98,7 +98,7 @@ fn leaf_fits(text: &[u8], table: &[u32], n: usize, at: usize, kinds: u32) -> boo
 
 // Whether the terminal s is a leaf.
 pub fn is_leaf(s: u32) -> bool
-    ensures { λ r. ⌜ r ≡ isLeaf s ⌝ }
+    ensures { λ r. ⌜ r ≡ isLeafSymbol s ⌝ }
 {
     if s < Symbol::NAME {
         return false;
@@ -428,7 +428,7 @@ pub fn matches(
 ) -> bool
     requires { ⌜ Holds (now dtext) (now dtable) dn ⌝ }
     requires { ⌜ Holds (now ltext) (now ltable) ln ⌝ }
-    ensures { λ r. ⌜ OfResults (now (dtext .entry)) (now (dtable .entry)) dn at (toks (now (ltext .entry)) (now (ltable .entry)) ln results) code r ⌝ }
+    ensures { λ r. ⌜ MatchesResults (now (dtext .entry)) (now (dtable .entry)) dn at (toks (now (ltext .entry)) (now (ltable .entry)) ln results) code r ⌝ }
 {
     if code == TENSOR {
         return is_label(dtext, dtable, dn, at);

@@ -16,7 +16,7 @@ use Rattle.documents.specs.DocumentRules.{argumentFaults}
 use Rattle.documents.specs.Judged.{Readable}
 use Rattle.canonical.specs.Plan.{PlanCall, planCalls}
 use Rattle.canonical.specs.Layout.{callsPieces}
-use Rattle.canonical.specs.Writing.{Recorded, PutsCall}
+use Rattle.canonical.specs.Writing.{CallsRecorded, PutsCall}
 use Rattle.canonical.proofs.CallWrites.{Ahead, ahead-next, ahead-end, ahead-over}
 use borrow.Author.Needs.{needs}
 use Rattle.canonical.proofs.call.put_calls.Statement.{statement}
@@ -25,7 +25,7 @@ use Rattle.canonical.proofs.call.put_calls.Tie as tie
 abbrev Inv-loop : tie.InvT-loop
 Inv-loop out₀ classes ltext ltable words records dtext dtable z body place₀ at₀ i₀ out place at i =
     (length out ≡ length out₀)
-    × ((hs : List Header) (cs : List Call) (us : List Token) (ps : List PlanCall) → Recorded ltext ltable words records z hs cs
+    × ((hs : List Header) (cs : List Call) (us : List Token) (ps : List PlanCall) → CallsRecorded ltext ltable words records z hs cs
     → Calls maxBrackets (toks dtext dtable (z .document) body) cs us → flatMap (argumentFaults hs) cs ≡ [] → planCalls hs cs ≡ some ps
     → Ahead ltext ltable words records dtext dtable z hs us (callsPieces hs ps) out₀ place₀ i at out place)
 

@@ -11,7 +11,7 @@ use Rattle.syntax.specs.Inner.{lookahead}
 use Rattle.syntax.proofs.Tails.{value-tails}
 use Rattle.syntax.proofs.Shrinks.{value-shrinks}
 use Rattle.syntax.proofs.Chain.{passes, reaches}
-use Rattle.lists.specs.Fitting.{isLeaf}
+use Rattle.lists.specs.Fitting.{isLeafSymbol}
 use Rattle.lists.proofs.Phrases.{value-is}
 use Rattle.documents.proofs.Items.{no-fault, left-at, leaf-ends, leaf-there}
 use borrow.Author.Needs.{needs}
@@ -28,7 +28,7 @@ add-result : tie.Need-add-result
 add-result c =
     let s = c .before .before .before .before .before in
     let a = s .args in
-    let seen = sym (c .before .is-leaf .ensures ∙ ap isLeaf (c .before .before .symbol-at .ensures)) ∙ c .if1 .taken in
+    let seen = sym (c .before .is-leaf .ensures ∙ ap isLeafSymbol (c .before .before .symbol-at .ensures)) ∙ c .if1 .taken in
     let l = leaf-there (a .text .now) (a .table .now) (a .n) (a .v) seen in
     record { fits = omega (arith, l, s .pre .room) }
 
@@ -36,7 +36,7 @@ returns : tie.Need-returns
 returns c =
     let a = c .before .before .before .before .before .args in
     let ts = toks (a .text .now) (a .table .now) (a .n) (a .v) in
-    let seen : isLeaf (lookahead ts) ≡ true = sym (c .before .is-leaf .ensures ∙ ap isLeaf (c .before .before .symbol-at .ensures)) ∙ c .if1 .taken in
+    let seen : isLeafSymbol (lookahead ts) ≡ true = sym (c .before .is-leaf .ensures ∙ ap isLeafSymbol (c .before .before .symbol-at .ensures)) ∙ c .if1 .taken in
     let l = leaf-there (a .text .now) (a .table .now) (a .n) (a .v) seen in
     ((omega arith, omega (arith, l)), λ x us h. leaf-ends (a .text .now) (a .table .now) (a .n) (a .v) seen (value-is both maxBrackets ts h))
 

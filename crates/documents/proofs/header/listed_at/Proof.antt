@@ -8,7 +8,7 @@ use Rattle.index.proofs.Theorems.{walks-wider, walks-kept}
 use Rattle.lists.specs.Scans.{isName}
 use Rattle.lists.proofs.NameScans.{is-name, no-name, those-one, those-none}
 use Rattle.documents.specs.Walks.{listing}
-use Rattle.documents.specs.Naming.{numbered, input}
+use Rattle.documents.specs.Naming.{numbered, inputWord}
 use Rattle.documents.proofs.NameTurns.{turn-none, listed-same, listed-name}
 use borrow.Author.Needs.{needs}
 use Rattle.documents.proofs.header.listed_at.Statement.{statement}
@@ -29,7 +29,7 @@ returns c =
         walks-wider (omega arith) (s .pre .1 .1),
         λ before ss made m k.
             turn-none (listing (a .size) before) ss (a .tally) k none
-            (listed-same (a .text .now) (a .table .now) (a .index .now) (a .i) ss _ none (numbered input before) made (a .which) m),
+            (listed-same (a .text .now) (a .table .now) (a .index .now) (a .i) ss _ none (numbered inputWord before) made (a .which) m),
       ),
     )
 

@@ -7,7 +7,7 @@ use native.Mathlib.Omega.{arith}
 use borrow.Author.Tests.{not-true, not-false}
 use Rattle.syntax.specs.Table.{toks}
 use Rattle.syntax.proofs.Symbols.{stands, stands-by}
-use Rattle.lists.specs.Fitting.{isLeaf, OfArray, OfEach}
+use Rattle.lists.specs.Fitting.{isLeafSymbol, OfArray, OfEach}
 use lib.ListN.{getD}
 use Rattle.lists.proofs.Answers.{none-within, one-within, wider, never}
 use Rattle.lists.proofs.Answers.{array-flat, array-deep, flat-deep, tuple-word, tuple-each, leaf-answer, leaf-within}
@@ -358,7 +358,7 @@ fits-base-fits-leaf-requires t c κs =
     let table = a .vtable .now in
     let n = a .vn in
     let leaf = sym (c .before .is-leaf .ensures) ∙ c .if1 .taken in
-    (s .pre .1 .0, stands-by text table n (a .v) isLeaf refl (e .symbol-at .ensures) leaf)
+    (s .pre .1 .0, stands-by text table n (a .v) isLeafSymbol refl (e .symbol-at .ensures) leaf)
 
 fits-base-returns : (t : ℕ) → fits-base-lts.Need-returns (
   symbol-at-reads.Asked,
@@ -388,7 +388,7 @@ fits-base-returns t c =
     let tn = a .tn in
     let x = e .symbol-at in
     let leaf = sym (at-leaf .is-leaf .ensures) ∙ c .before .if1 .taken in
-    let h = stands-by text table n (a .v) isLeaf refl (x .ensures) leaf in
+    let h = stands-by text table n (a .v) isLeafSymbol refl (x .ensures) leaf in
     let bytes : (j : ℕ) → getD (a .vtext .now) j 0 < 256 = λ j. omega (arith, known .shared-slice-known .given j) in
     let r = c .fits-leaf in (
       leaf-within text table n (a .v) ttext ttable tn (a .t) (a .k) (x .result) (x .ensures) (s .pre .1 .0) bytes h leaf (a .kinds) (r .result) (r .ensures),
@@ -1144,7 +1144,7 @@ fits-one-fits-leaf-requires t c κs =
     let table = a .vtable .now in
     let n = a .vn in
     let leaf = sym (c .before .is-leaf .ensures) ∙ c .if1 .taken in
-    (s .pre .1 .0, stands-by text table n (a .v) isLeaf refl (e .symbol-at .ensures) leaf)
+    (s .pre .1 .0, stands-by text table n (a .v) isLeafSymbol refl (e .symbol-at .ensures) leaf)
 
 fits-one-returns : (t : ℕ) → fits-one-lts.Need-returns (
   symbol-at-reads.Asked,
@@ -1170,7 +1170,7 @@ fits-one-returns t c =
     let tn = a .tn in
     let x = e .symbol-at in
     let leaf = sym (at-leaf .is-leaf .ensures) ∙ c .before .if1 .taken in
-    let h = stands-by text table n (a .v) isLeaf refl (x .ensures) leaf in
+    let h = stands-by text table n (a .v) isLeafSymbol refl (x .ensures) leaf in
     let bytes : (j : ℕ) → getD (a .vtext .now) j 0 < 256 = λ j. omega (arith, known .shared-slice-known .given j) in
     let r = c .fits-leaf in (
       leaf-within text table n (a .v) ttext ttable tn (a .t) (a .k) (x .result) (x .ensures) (s .pre .1 .0) bytes h leaf (a .kinds) (r .result) (r .ensures),
