@@ -172,9 +172,8 @@ fn document_stages(
     }
 }
 
-// All stages of both texts. Where they pass, the work areas hold both tables, `words` has the directory of the list and `lindex` its names, and `records`
-// has the
-// records of the document's calls and wires; else anything.
+// All stages of both texts. Where they pass, the work areas hold both tables, `words` has the directory of the list and `lindex` its names, and `records` has
+// the records of the document's calls and wires; else anything.
 pub fn both_stages(
     list: &[u8],
     doc: &[u8],
