@@ -127,14 +127,21 @@ fn then_to(text: &[u8], table: &[u32], n: usize, first: usize, s: u32) -> usize
     expect_to(text, table, n, first, symbol_at(text, table, n, first), s)
 }
 
-// A value, in which `room` brackets may be opened inside one another.
-fn value_to(text: &[u8], table: &[u32], n: usize, at: usize, leaves: Leaves, room: usize) -> usize
+// A value where s stands, in which `room` brackets may be opened inside one another.
+fn value_to(
+    text: &[u8],
+    table: &[u32],
+    n: usize,
+    at: usize,
+    s: u32,
+    leaves: Leaves,
+    room: usize,
+) -> usize
     requires { ⌜ Holds (now text) (now table) n ⌝ }
-    requires { ⌜ at ≤ n ⌝ }
+    requires { ⌜ (at ≤ n) × (s ≡ lookahead (toks (now text) (now table) n at)) ⌝ }
     ensures { λ r. ⌜ reached (now (text .entry)) (now (table .entry)) n r ≡ parsed (length (now (text .entry))) n
         (value (leavesOf leaves) room (toks (now (text .entry)) (now (table .entry)) n at)) ⌝ }
 {
-    let s = symbol_at(text, table, n, at);
     if is_leaf(leaves, s) {
         return at + 1;
     }
@@ -148,19 +155,6 @@ fn value_to(text: &[u8], table: &[u32], n: usize, at: usize, leaves: Leaves, roo
         return array(text, table, n, at + 1, leaves, room - 1);
     }
     tuple(text, table, n, at + 1, leaves, room - 1)
-}
-
-// A value that is a leaf more often than not: a leaf is told at once, and not by a call of the readers that call each other.
-fn item_to(text: &[u8], table: &[u32], n: usize, at: usize, leaves: Leaves, room: usize) -> usize
-    requires { ⌜ Holds (now text) (now table) n ⌝ }
-    requires { ⌜ at ≤ n ⌝ }
-    ensures { λ r. ⌜ reached (now (text .entry)) (now (table .entry)) n r ≡ parsed (length (now (text .entry))) n
-        (value (leavesOf leaves) room (toks (now (text .entry)) (now (table .entry)) n at)) ⌝ }
-{
-    if is_leaf(leaves, symbol_at(text, table, n, at)) {
-        return at + 1;
-    }
-    value_to(text, table, n, at, leaves, room)
 }
 
 // The items of an array, after its bracket: none, or a row.
@@ -183,7 +177,8 @@ fn tuple(text: &[u8], table: &[u32], n: usize, at: usize, leaves: Leaves, room: 
     ensures { λ r. ⌜ reached (now (text .entry)) (now (table .entry)) n r ≡ parsed (length (now (text .entry))) n
         (tupleItems (value (leavesOf leaves) room) (toks (now (text .entry)) (now (table .entry)) n at)) ⌝ }
 {
-    let first = value_to(text, table, n, at, leaves, room);
+    let s = symbol_at(text, table, n, at);
+    let first = value_to(text, table, n, at, s, leaves, room);
     let next = then_to(text, table, n, first, Symbol::COMMA);
     if n < next {
         return next;
@@ -191,7 +186,7 @@ fn tuple(text: &[u8], table: &[u32], n: usize, at: usize, leaves: Leaves, room: 
     items_to(text, table, n, next, leaves, room, Symbol::RIGHT_ROUND)
 }
 
-// Values parted by commas, at least one, and the closing terminal.
+// Values parted by commas, at least one, and the closing terminal. A leaf, which an item is more often than not, is told here and not by a call.
 fn items_to(
     text: &[u8],
     table: &[u32],
@@ -208,9 +203,13 @@ fn items_to(
 {
     let mut i = at;
     loop {
-        let next = item_to(text, table, n, i, leaves, room);
-        if n < next {
-            return next;
+        let c = symbol_at(text, table, n, i);
+        let mut next = i + 1;
+        if !is_leaf(leaves, c) {
+            next = value_to(text, table, n, i, c, leaves, room);
+            if n < next {
+                return next;
+            }
         }
         let s = symbol_at(text, table, n, next);
         if s != Symbol::COMMA {
@@ -232,7 +231,12 @@ pub fn value(text: &[u8], table: &[u32], n: usize, at: usize, leaves: Leaves, ro
     if !opens_value(s) {
         return fault_at(text, table, n, at, Parsed::SYNTAX);
     }
-    parsed_of(text, table, n, value_to(text, table, n, at, leaves, room))
+    parsed_of(
+        text,
+        table,
+        n,
+        value_to(text, table, n, at, s, leaves, room),
+    )
 }
 
 // Values parted by commas, at least one, and the closing terminal.

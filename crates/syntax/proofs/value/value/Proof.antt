@@ -47,8 +47,9 @@ value-to-requires c κs =
     let s = c .before .before .before .before .before .before .before in
     let a = s .args in
     let o = sym (c .before .opens-value .ensures) ∙ not-false _ (c .if2 .left) in
-    let h = open-stands (a .text .now) (a .table .now) 0 (a .n) (a .at) (c .before .before .before .before .symbol-at .ensures) o in
-    (s .pre, omega (arith, h))
+    let x = c .before .before .before .before .symbol-at .ensures in
+    let h = open-stands (a .text .now) (a .table .now) 0 (a .n) (a .at) x o in
+    (s .pre, (omega (arith, h), x))
 
 parsed-of-requires : tie.Need-parsed-of-requires
 parsed-of-requires c κs = search needs

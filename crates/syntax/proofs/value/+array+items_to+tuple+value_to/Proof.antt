@@ -1,6 +1,7 @@
--- The readers of values meet their contracts. The measure is four times the number of tokens left, and a little more for those that call another at
+-- The readers of values meet their contracts. The measure is three times the number of tokens left, and a little more for those that call another at
 -- the same place. The invariant of the loop of `items_to`: from `i` on the row answers what it answers from `at` on. Assumes nothing.
-use mathlib.Core.Path.{_≡_, refl, sym, _∙_}
+use mathlib.Core.Path.{_≡_, refl, sym, ap, _∙_}
+use mathlib.Core.Logic.{⊎-elim}
 use native.Mathlib.Omega.{arith}
 use Prim.Native.Nat.{ℕ, _<_, _≤_, _+_, _-_, _*_}
 use lib.ListN.{length}
@@ -8,6 +9,7 @@ use borrow.Author.Tests.{not-true, not-false}
 use borrow.Author.Needs.{needs}
 use borrow.Fn.Kinds.{In}
 use borrow.Fn.PlainCycle.{Measures, is, falls, and}
+use Rattle.syntax.specs.declared.Parsed.the-variants.{Done}
 use Rattle.syntax.specs.Inner.{leavesOf}
 use Rattle.syntax.specs.Table.{toks, parsed}
 use Rattle.syntax.specs.Parser.{value as valueOf, values, commas, row}
@@ -18,19 +20,16 @@ use Rattle.syntax.proofs.Symbols.{stands}
 use Rattle.syntax.proofs.Chain.{fell, went, onto, passes}
 use Rattle.syntax.proofs.value.array.Reads as array
 use Rattle.syntax.proofs.value.array.Kinds as array-kinds
-use Rattle.syntax.proofs.value.+array+item_to+items_to+tuple+value_to.Lts-array as array-lts
-use Rattle.syntax.proofs.value.item_to.Reads as item-to
-use Rattle.syntax.proofs.value.item_to.Kinds as item-to-kinds
-use Rattle.syntax.proofs.value.+array+item_to+items_to+tuple+value_to.Lts-item_to as item-to-lts
+use Rattle.syntax.proofs.value.+array+items_to+tuple+value_to.Lts-array as array-lts
 use Rattle.syntax.proofs.value.items_to.Reads as items-to
 use Rattle.syntax.proofs.value.items_to.Kinds as items-to-kinds
-use Rattle.syntax.proofs.value.+array+item_to+items_to+tuple+value_to.Lts-items_to as items-to-lts
+use Rattle.syntax.proofs.value.+array+items_to+tuple+value_to.Lts-items_to as items-to-lts
 use Rattle.syntax.proofs.value.tuple.Reads as tuple
 use Rattle.syntax.proofs.value.tuple.Kinds as tuple-kinds
-use Rattle.syntax.proofs.value.+array+item_to+items_to+tuple+value_to.Lts-tuple as tuple-lts
+use Rattle.syntax.proofs.value.+array+items_to+tuple+value_to.Lts-tuple as tuple-lts
 use Rattle.syntax.proofs.value.value_to.Reads as value-to
 use Rattle.syntax.proofs.value.value_to.Kinds as value-to-kinds
-use Rattle.syntax.proofs.value.+array+item_to+items_to+tuple+value_to.Lts-value_to as value-to-lts
+use Rattle.syntax.proofs.value.+array+items_to+tuple+value_to.Lts-value_to as value-to-lts
 use Rattle.syntax.proofs.symbol.symbol_at.Reads as symbol-at-reads
 use Rattle.syntax.proofs.value.bracket_at.Reads as bracket-at-reads
 use Rattle.syntax.proofs.value.expect_to.Reads as expect-to-reads
@@ -38,35 +37,26 @@ use Rattle.syntax.proofs.value.is_leaf.Reads as is-leaf-reads
 use Rattle.syntax.proofs.value.opens_value.Reads as opens-value-reads
 use Rattle.syntax.proofs.value.syntax_at.Reads as syntax-at-reads
 use Rattle.syntax.proofs.value.then_to.Reads as then-to-reads
-use Rattle.syntax.proofs.value.+array+item_to+items_to+tuple+value_to.{statement}
-use Rattle.syntax.proofs.value.+array+item_to+items_to+tuple+value_to.Tie.{close}
+use Rattle.syntax.proofs.value.+array+items_to+tuple+value_to.{statement}
+use Rattle.syntax.proofs.value.+array+items_to+tuple+value_to.Tie.{close}
 
 abbrev μ-array : Measures 2 array-kinds.ps ℕ
-μ-array κs a = 4 * (a .1 .1 .0 - a .1 .1 .1 .0) + 3
-
-abbrev μ-item-to : Measures 2 item-to-kinds.ps ℕ
-μ-item-to κs a = 4 * (a .1 .1 .0 - a .1 .1 .1 .0) + 1
+μ-array κs a = 3 * (a .1 .1 .0 - a .1 .1 .1 .0) + 2
 
 abbrev μ-items-to : Measures 2 items-to-kinds.ps ℕ
-μ-items-to κs a = 4 * (a .1 .1 .0 - a .1 .1 .1 .0) + 2
+μ-items-to κs a = 3 * (a .1 .1 .0 - a .1 .1 .1 .0) + 1
 
 abbrev μ-tuple : Measures 2 tuple-kinds.ps ℕ
-μ-tuple κs a = 4 * (a .1 .1 .0 - a .1 .1 .1 .0) + 1
+μ-tuple κs a = 3 * (a .1 .1 .0 - a .1 .1 .1 .0) + 1
 
 abbrev μ-value-to : Measures 2 value-to-kinds.ps ℕ
-μ-value-to κs a = 4 * (a .1 .1 .0 - a .1 .1 .1 .0) + 0
+μ-value-to κs a = 3 * (a .1 .1 .0 - a .1 .1 .1 .0) + 0
 
 abbrev array-at : ℕ → In 2 array-kinds.ps
 array-at t = and 2 array-kinds.ps (is 2 array-kinds.ps μ-array t) array.Pre
 
 abbrev array-below : ℕ → In 2 array-kinds.ps
 array-below t = and 2 array-kinds.ps (falls 2 array-kinds.ps _<_ μ-array t) array.Pre
-
-abbrev item-to-at : ℕ → In 2 item-to-kinds.ps
-item-to-at t = and 2 item-to-kinds.ps (is 2 item-to-kinds.ps μ-item-to t) item-to.Pre
-
-abbrev item-to-below : ℕ → In 2 item-to-kinds.ps
-item-to-below t = and 2 item-to-kinds.ps (falls 2 item-to-kinds.ps _<_ μ-item-to t) item-to.Pre
 
 abbrev items-to-at : ℕ → In 2 items-to-kinds.ps
 items-to-at t = and 2 items-to-kinds.ps (is 2 items-to-kinds.ps μ-items-to t) items-to.Pre
@@ -140,76 +130,6 @@ array-returns-2 t c =
     at-items (a .text .now) (a .table .now) (length (a .text .now)) (a .n) (a .at) (c .before .before .symbol-at .ensures) _ (c .before .if1 .left)
     (c .items-to .ensures)
 
-item-to-symbol-at-requires : (t : ℕ) → item-to-lts.Need-symbol-at-requires (
-  symbol-at-reads.Asked,
-  symbol-at-reads.Learnt,
-  is-leaf-reads.Asked,
-  is-leaf-reads.Learnt,
-  value-to-below t,
-  value-to.Post,
-) (item-to-at t) item-to.Post
-item-to-symbol-at-requires t c κs = search needs
-
-item-to-is-leaf-requires : (t : ℕ) → item-to-lts.Need-is-leaf-requires (
-  symbol-at-reads.Asked,
-  symbol-at-reads.Learnt,
-  is-leaf-reads.Asked,
-  is-leaf-reads.Learnt,
-  value-to-below t,
-  value-to.Post,
-) (item-to-at t) item-to.Post
-item-to-is-leaf-requires t c κs = search needs
-
-item-to-add-result : (t : ℕ) → item-to-lts.Need-add-result (
-  symbol-at-reads.Asked,
-  symbol-at-reads.Learnt,
-  is-leaf-reads.Asked,
-  is-leaf-reads.Learnt,
-  value-to-below t,
-  value-to.Post,
-) (item-to-at t) item-to.Post
-item-to-add-result t c =
-    let a = c .before .before .before .before .before .args in
-    let e = sym (c .before .is-leaf .ensures) ∙ c .if1 .taken in
-    let h = leaf-stands (a .text .now) (a .table .now) 0 (a .n) (a .at) (c .before .before .symbol-at .ensures) (leavesOf (a .leaves)) e in
-    search needs
-
-item-to-returns : (t : ℕ) → item-to-lts.Need-returns (
-  symbol-at-reads.Asked,
-  symbol-at-reads.Learnt,
-  is-leaf-reads.Asked,
-  is-leaf-reads.Learnt,
-  value-to-below t,
-  value-to.Post,
-) (item-to-at t) item-to.Post
-item-to-returns t c =
-    let a = c .before .before .before .before .before .args in
-    let e = sym (c .before .is-leaf .ensures) ∙ c .if1 .taken in
-    let x = c .before .before .symbol-at .ensures in
-    reached-next (a .text .now) (a .table .now) (a .n) (a .at) (leaf-stands (a .text .now) (a .table .now) 0 (a .n) (a .at) x (leavesOf (a .leaves)) e)
-    ∙ at-leaf (a .text .now) (a .table .now) (length (a .text .now)) (a .n) (a .at) x (leavesOf (a .leaves)) (a .room) e
-
-item-to-value-to-requires : (t : ℕ) → item-to-lts.Need-value-to-requires (
-  symbol-at-reads.Asked,
-  symbol-at-reads.Learnt,
-  is-leaf-reads.Asked,
-  is-leaf-reads.Learnt,
-  value-to-below t,
-  value-to.Post,
-) (item-to-at t) item-to.Post
-item-to-value-to-requires t c κs = search needs
-
-item-to-returns-2 : (t : ℕ) → item-to-lts.Need-returns-2 (
-  symbol-at-reads.Asked,
-  symbol-at-reads.Learnt,
-  is-leaf-reads.Asked,
-  is-leaf-reads.Learnt,
-  value-to-below t,
-  value-to.Post,
-) (item-to-at t) item-to.Post
-item-to-returns-2 t c =
-    c .value-to .ensures
-
 abbrev items-to-Inv-loop : items-to-lts.InvT-loop
 items-to-Inv-loop text table n at leaves room close i₀ i =
     (at ≤ i)
@@ -223,10 +143,12 @@ abbrev items-to-μ-loop : items-to-lts.MeasureT-loop
 items-to-μ-loop text table n at leaves room close i₀ i = n - i
 
 items-to-loop-holds : (t : ℕ) → items-to-lts.Need-loop-holds (
-  item-to-below t,
-  item-to.Post,
   symbol-at-reads.Asked,
   symbol-at-reads.Learnt,
+  is-leaf-reads.Asked,
+  is-leaf-reads.Learnt,
+  value-to-below t,
+  value-to.Post,
   expect-to-reads.Asked,
   expect-to-reads.Learnt,
 ) (items-to-at t) items-to.Post items-to-Inv-loop items-to-μ-loop
@@ -234,126 +156,219 @@ items-to-loop-holds t c =
     let s = c .before .before in
     (omega arith, s .pre .1 .1 .0, refl)
 
-items-to-item-to-requires : (t : ℕ) → items-to-lts.Need-item-to-requires (
-  item-to-below t,
-  item-to.Post,
-  symbol-at-reads.Asked,
-  symbol-at-reads.Learnt,
-  expect-to-reads.Asked,
-  expect-to-reads.Learnt,
-) (items-to-at t) items-to.Post items-to-Inv-loop items-to-μ-loop
-items-to-item-to-requires t c κs =
-    let s = c .before .before .before in
-    (omega (arith, s .pre .0, c .loop .inv .0), (s .pre .1 .0, c .loop .inv .1))
-
-items-to-returns : (t : ℕ) → items-to-lts.Need-returns (
-  item-to-below t,
-  item-to.Post,
-  symbol-at-reads.Asked,
-  symbol-at-reads.Learnt,
-  expect-to-reads.Asked,
-  expect-to-reads.Learnt,
-) (items-to-at t) items-to.Post items-to-Inv-loop items-to-μ-loop
-items-to-returns t c =
-    let a = c .before .before .before .before .before .args in
-    let l = c .before .before .loop in
-    let f = reached-fault (a .text .now) (a .table .now) (a .n) (c .before .item-to .result) (c .if1 .taken) in
-    row-fell values (a .close) (value-sound (leavesOf (a .leaves)) (a .room)) (length (a .text .now)) (a .n) (a .text .now) (a .table .now) (l .i)
-    (c .before .item-to .ensures) (f .2)
-    ∙ sym (l .inv .2)
-
 items-to-symbol-at-requires : (t : ℕ) → items-to-lts.Need-symbol-at-requires (
-  item-to-below t,
-  item-to.Post,
   symbol-at-reads.Asked,
   symbol-at-reads.Learnt,
+  is-leaf-reads.Asked,
+  is-leaf-reads.Learnt,
+  value-to-below t,
+  value-to.Post,
   expect-to-reads.Asked,
   expect-to-reads.Learnt,
 ) (items-to-at t) items-to.Post items-to-Inv-loop items-to-μ-loop
 items-to-symbol-at-requires t c κs = search needs
 
-items-to-expect-to-requires : (t : ℕ) → items-to-lts.Need-expect-to-requires (
-  item-to-below t,
-  item-to.Post,
+items-to-add-next : (t : ℕ) → items-to-lts.Need-add-next (
   symbol-at-reads.Asked,
   symbol-at-reads.Learnt,
+  is-leaf-reads.Asked,
+  is-leaf-reads.Learnt,
+  value-to-below t,
+  value-to.Post,
+  expect-to-reads.Asked,
+  expect-to-reads.Learnt,
+) (items-to-at t) items-to.Post items-to-Inv-loop items-to-μ-loop
+items-to-add-next t c = search needs
+
+items-to-is-leaf-requires : (t : ℕ) → items-to-lts.Need-is-leaf-requires (
+  symbol-at-reads.Asked,
+  symbol-at-reads.Learnt,
+  is-leaf-reads.Asked,
+  is-leaf-reads.Learnt,
+  value-to-below t,
+  value-to.Post,
+  expect-to-reads.Asked,
+  expect-to-reads.Learnt,
+) (items-to-at t) items-to.Post items-to-Inv-loop items-to-μ-loop
+items-to-is-leaf-requires t c κs = search needs
+
+items-to-value-to-requires : (t : ℕ) → items-to-lts.Need-value-to-requires (
+  symbol-at-reads.Asked,
+  symbol-at-reads.Learnt,
+  is-leaf-reads.Asked,
+  is-leaf-reads.Learnt,
+  value-to-below t,
+  value-to.Post,
+  expect-to-reads.Asked,
+  expect-to-reads.Learnt,
+) (items-to-at t) items-to.Post items-to-Inv-loop items-to-μ-loop
+items-to-value-to-requires t c κs =
+    let s = c .before .before .before .before .before .before in
+    let l = c .before .before .before .loop in
+    (omega (arith, s .pre .0, l .inv .0), (s .pre .1 .0, (l .inv .1, c .before .before .symbol-at .ensures)))
+
+items-to-returns : (t : ℕ) → items-to-lts.Need-returns (
+  symbol-at-reads.Asked,
+  symbol-at-reads.Learnt,
+  is-leaf-reads.Asked,
+  is-leaf-reads.Learnt,
+  value-to-below t,
+  value-to.Post,
+  expect-to-reads.Asked,
+  expect-to-reads.Learnt,
+) (items-to-at t) items-to.Post items-to-Inv-loop items-to-μ-loop
+items-to-returns t c =
+    let a = c .before .before .before .before .before .before .before .before .args in
+    let l = c .before .before .before .before .before .loop in
+    let f = reached-fault (a .text .now) (a .table .now) (a .n) (c .before .value-to .result) (c .if2 .taken) in
+    row-fell values (a .close) (value-sound (leavesOf (a .leaves)) (a .room)) (length (a .text .now)) (a .n) (a .text .now) (a .table .now) (l .i)
+    (c .before .value-to .ensures) (f .2)
+    ∙ sym (l .inv .2)
+
+-- after an item, by either way: its end, which is further on
+items-to-item : (t : ℕ) (c : items-to-lts.Joined1 (
+  symbol-at-reads.Asked,
+  symbol-at-reads.Learnt,
+  is-leaf-reads.Asked,
+  is-leaf-reads.Learnt,
+  value-to-below t,
+  value-to.Post,
+  expect-to-reads.Asked,
+  expect-to-reads.Learnt,
+) (items-to-at t) items-to.Post items-to-Inv-loop items-to-μ-loop)
+    → let a = c .before .before .before .before .before .before .args in
+    let i = c .before .before .before .loop .i in
+    (i < c .if1 .next)
+    ×
+    (c .if1 .next ≤ a .n)
+    ×
+    (Done (c .if1 .next) ≡ parsed (length (a .text .now)) (a .n) (valueOf (leavesOf (a .leaves)) (a .room) (toks (a .text .now) (a .table .now) (a .n) i)))
+items-to-item t c =
+    let a = c .before .before .before .before .before .before .args in
+    let i = c .before .before .before .loop .i in
+    let x = c .before .before .symbol-at .ensures in
+    let m = leavesOf (a .leaves) in
+    ⊎-elim
+    (λ w.
+    let d = reached-place (a .text .now) (a .table .now) (a .n) (w .1 .result) (omega arith) in
+    let q = passes (a .text .now) (a .table .now) (length (a .text .now)) (a .n) i (value-sound m (a .room) .small _) (w .1 .ensures) d in
+    (omega arith, omega arith, ap Done (w .3) ∙ sym d ∙ w .1 .ensures))
+    (λ w.
+    let e = sym (c .before .is-leaf .ensures) ∙ not-false _ (w .0 .left) in
+    let h = leaf-stands (a .text .now) (a .table .now) 0 (a .n) i x m e in
+    (omega arith, omega arith, ap Done (w .1) ∙ at-leaf (a .text .now) (a .table .now) (length (a .text .now)) (a .n) i x m (a .room) e))
+    (c .if1 .came)
+
+items-to-symbol-at-requires-2 : (t : ℕ) → items-to-lts.Need-symbol-at-requires-2 (
+  symbol-at-reads.Asked,
+  symbol-at-reads.Learnt,
+  is-leaf-reads.Asked,
+  is-leaf-reads.Learnt,
+  value-to-below t,
+  value-to.Post,
+  expect-to-reads.Asked,
+  expect-to-reads.Learnt,
+) (items-to-at t) items-to.Post items-to-Inv-loop items-to-μ-loop
+items-to-symbol-at-requires-2 t c κs = search needs
+
+items-to-expect-to-requires : (t : ℕ) → items-to-lts.Need-expect-to-requires (
+  symbol-at-reads.Asked,
+  symbol-at-reads.Learnt,
+  is-leaf-reads.Asked,
+  is-leaf-reads.Learnt,
+  value-to-below t,
+  value-to.Post,
   expect-to-reads.Asked,
   expect-to-reads.Learnt,
 ) (items-to-at t) items-to.Post items-to-Inv-loop items-to-μ-loop
 items-to-expect-to-requires t c κs =
-    let s = c .before .before .before .before .before .before .before in
-    (s .pre .1 .0, (omega (arith, c .before .before .if1 .left), c .before .symbol-at .ensures, s .pre .1 .1 .1))
+    let s = c .before .before .before .before .before .before .before .before in
+    (s .pre .1 .0, (items-to-item t (c .before .before) .1, c .before .symbol-at2 .ensures, s .pre .1 .1 .1))
 
 items-to-returns-2 : (t : ℕ) → items-to-lts.Need-returns-2 (
-  item-to-below t,
-  item-to.Post,
   symbol-at-reads.Asked,
   symbol-at-reads.Learnt,
+  is-leaf-reads.Asked,
+  is-leaf-reads.Learnt,
+  value-to-below t,
+  value-to.Post,
   expect-to-reads.Asked,
   expect-to-reads.Learnt,
 ) (items-to-at t) items-to.Post items-to-Inv-loop items-to-μ-loop
 items-to-returns-2 t c =
-    let a = c .before .before .before .before .before .before .before .before .args in
-    let l = c .before .before .before .before .before .loop in
-    let x = c .before .before .before .before .item-to in
-    let d = reached-place (a .text .now) (a .table .now) (a .n) (x .result) (omega (arith, c .before .before .before .if1 .left)) in
+    let a = c .before .before .before .before .before .before .before .before .before .args in
+    let l = c .before .before .before .before .before .before .loop in
     row-last values (a .close) (value-sound (leavesOf (a .leaves)) (a .room)) (length (a .text .now)) (a .n) (a .text .now) (a .table .now) (l .i)
-    (x .ensures) d (c .before .before .symbol-at .ensures) (c .before .if2 .taken) (c .expect-to .ensures)
+    (items-to-item t (c .before .before .before) .2) refl (c .before .before .symbol-at2 .ensures) (c .before .if3 .taken) (c .expect-to .ensures)
     ∙ sym (l .inv .2)
 
 items-to-add-i : (t : ℕ) → items-to-lts.Need-add-i (
-  item-to-below t,
-  item-to.Post,
   symbol-at-reads.Asked,
   symbol-at-reads.Learnt,
+  is-leaf-reads.Asked,
+  is-leaf-reads.Learnt,
+  value-to-below t,
+  value-to.Post,
   expect-to-reads.Asked,
   expect-to-reads.Learnt,
 ) (items-to-at t) items-to.Post items-to-Inv-loop items-to-μ-loop
 items-to-add-i t c =
-    let a = c .before .before .before .before .before .before .before .args in
-    let x = c .before .before .before .item-to in
-    let h = stands (a .text .now) (a .table .now) (a .n) (x .result) (c .before .symbol-at .ensures) (omega (arith, c .if2 .left)) in
+    let a = c .before .before .before .before .before .before .before .before .before .args in
+    let j = c .before .before .before .if1 .next in
+    let h = stands (a .text .now) (a .table .now) (a .n) j (c .before .before .symbol-at2 .ensures) (omega (arith, c .before .if3 .left)) in
     search needs
 
 items-to-loop-less : (t : ℕ) → items-to-lts.Need-loop-less (
-  item-to-below t,
-  item-to.Post,
   symbol-at-reads.Asked,
   symbol-at-reads.Learnt,
+  is-leaf-reads.Asked,
+  is-leaf-reads.Learnt,
+  value-to-below t,
+  value-to.Post,
   expect-to-reads.Asked,
   expect-to-reads.Learnt,
 ) (items-to-at t) items-to.Post items-to-Inv-loop items-to-μ-loop
 items-to-loop-less t c =
-    let a = c .before .before .before .before .before .before .before .args in
-    let l = c .before .before .before .before .loop in
-    let x = c .before .before .before .item-to in
-    let h = stands (a .text .now) (a .table .now) (a .n) (x .result) (c .before .symbol-at .ensures) (omega (arith, c .if2 .left)) in
-    let d = reached-place (a .text .now) (a .table .now) (a .n) (x .result) (omega (arith, h)) in
-    let good = value-sound (leavesOf (a .leaves)) (a .room) in
-    let q = passes (a .text .now) (a .table .now) (length (a .text .now)) (a .n) (l .i) (good .small _) (x .ensures) d in
-    omega (arith, q, h)
+    let a = c .before .before .before .before .before .before .before .before .before .args in
+    let j = c .before .before .before .if1 .next in
+    let h = stands (a .text .now) (a .table .now) (a .n) j (c .before .before .symbol-at2 .ensures) (omega (arith, c .before .if3 .left)) in
+    omega (arith, items-to-item t (c .before .before .before) .0)
 
 items-to-loop-again : (t : ℕ) → items-to-lts.Need-loop-again (
-  item-to-below t,
-  item-to.Post,
   symbol-at-reads.Asked,
   symbol-at-reads.Learnt,
+  is-leaf-reads.Asked,
+  is-leaf-reads.Learnt,
+  value-to-below t,
+  value-to.Post,
   expect-to-reads.Asked,
   expect-to-reads.Learnt,
 ) (items-to-at t) items-to.Post items-to-Inv-loop items-to-μ-loop
 items-to-loop-again t c =
-    let a = c .before .before .before .before .before .before .before .args in
-    let l = c .before .before .before .before .loop in
-    let x = c .before .before .before .item-to in
-    let h = stands (a .text .now) (a .table .now) (a .n) (x .result) (c .before .symbol-at .ensures) (omega (arith, c .if2 .left)) in
-    let d = reached-place (a .text .now) (a .table .now) (a .n) (x .result) (omega (arith, h)) in
+    let a = c .before .before .before .before .before .before .before .before .before .args in
+    let l = c .before .before .before .before .before .before .loop in
+    let x = items-to-item t (c .before .before .before) in
+    let z = c .before .before .symbol-at2 .ensures in
+    let h = stands (a .text .now) (a .table .now) (a .n) (c .before .before .before .if1 .next) z (omega (arith, c .before .if3 .left)) in
     let good = value-sound (leavesOf (a .leaves)) (a .room) in
-    let q = passes (a .text .now) (a .table .now) (length (a .text .now)) (a .n) (l .i) (good .small _) (x .ensures) d in
-    let z = c .before .symbol-at .ensures in
-    let e = row-next values (a .close) good (length (a .text .now)) (a .n) (a .text .now) (a .table .now) (l .i) (x .ensures) d z (c .if2 .left) in
-    (omega (arith, q, l .inv .0), omega (arith, h), l .inv .2 ∙ e)
+    let e = row-next values (a .close) good (length (a .text .now)) (a .n) (a .text .now) (a .table .now) (l .i) (x .2) refl z (c .before .if3 .left) in
+    (omega arith, omega arith, l .inv .2 ∙ e)
+
+tuple-symbol-at-requires : (t : ℕ) → tuple-lts.Need-symbol-at-requires (
+  symbol-at-reads.Asked,
+  symbol-at-reads.Learnt,
+  value-to-below t,
+  value-to.Post,
+  then-to-reads.Asked,
+  then-to-reads.Learnt,
+  items-to-below t,
+  items-to.Post,
+) (tuple-at t) tuple.Post
+tuple-symbol-at-requires t c κs = search needs
 
 tuple-value-to-requires : (t : ℕ) → tuple-lts.Need-value-to-requires (
+  symbol-at-reads.Asked,
+  symbol-at-reads.Learnt,
   value-to-below t,
   value-to.Post,
   then-to-reads.Asked,
@@ -364,6 +379,8 @@ tuple-value-to-requires : (t : ℕ) → tuple-lts.Need-value-to-requires (
 tuple-value-to-requires t c κs = search needs
 
 tuple-then-to-requires : (t : ℕ) → tuple-lts.Need-then-to-requires (
+  symbol-at-reads.Asked,
+  symbol-at-reads.Learnt,
   value-to-below t,
   value-to.Post,
   then-to-reads.Asked,
@@ -374,6 +391,8 @@ tuple-then-to-requires : (t : ℕ) → tuple-lts.Need-then-to-requires (
 tuple-then-to-requires t c κs = search needs
 
 tuple-returns : (t : ℕ) → tuple-lts.Need-returns (
+  symbol-at-reads.Asked,
+  symbol-at-reads.Learnt,
   value-to-below t,
   value-to.Post,
   then-to-reads.Asked,
@@ -382,12 +401,14 @@ tuple-returns : (t : ℕ) → tuple-lts.Need-returns (
   items-to.Post,
 ) (tuple-at t) tuple.Post
 tuple-returns t c =
-    let a = c .before .before .before .before .before .args in
+    let a = c .before .before .before .before .before .before .args in
     let f = reached-fault (a .text .now) (a .table .now) (a .n) (c .before .then-to .result) (c .if1 .taken) in
     fell _ (onto _ (c .before .then-to .ensures) (c .before .before .value-to .ensures))
     (tuple-is (leavesOf (a .leaves)) (a .room) (a .text .now) (a .table .now) (length (a .text .now)) (a .n) (a .at)) (f .2)
 
 tuple-items-to-requires : (t : ℕ) → tuple-lts.Need-items-to-requires (
+  symbol-at-reads.Asked,
+  symbol-at-reads.Learnt,
   value-to-below t,
   value-to.Post,
   then-to-reads.Asked,
@@ -396,7 +417,7 @@ tuple-items-to-requires : (t : ℕ) → tuple-lts.Need-items-to-requires (
   items-to.Post,
 ) (tuple-at t) tuple.Post
 tuple-items-to-requires t c κs =
-    let s = c .before .before .before .before .before in
+    let s = c .before .before .before .before .before .before in
     let a = s .args in
     let d = reached-place (a .text .now) (a .table .now) (a .n) (c .before .then-to .result) (omega (arith, c .if1 .left)) in
     let o = onto _ (c .before .then-to .ensures) (c .before .before .value-to .ensures) in
@@ -404,6 +425,8 @@ tuple-items-to-requires t c κs =
     (omega (arith, w .0, w .1, s .pre .0), (s .pre .1 .0, (w .1, omega arith)))
 
 tuple-returns-2 : (t : ℕ) → tuple-lts.Need-returns-2 (
+  symbol-at-reads.Asked,
+  symbol-at-reads.Learnt,
   value-to-below t,
   value-to.Post,
   then-to-reads.Asked,
@@ -412,32 +435,12 @@ tuple-returns-2 : (t : ℕ) → tuple-lts.Need-returns-2 (
   items-to.Post,
 ) (tuple-at t) tuple.Post
 tuple-returns-2 t c =
-    let a = c .before .before .before .before .before .before .args in
+    let a = c .before .before .before .before .before .before .before .args in
     let d = reached-place (a .text .now) (a .table .now) (a .n) (c .before .before .then-to .result) (omega (arith, c .before .if1 .left)) in
     went _ (onto _ (c .before .before .then-to .ensures) (c .before .before .before .value-to .ensures))
     (tuple-is (leavesOf (a .leaves)) (a .room) (a .text .now) (a .table .now) (length (a .text .now)) (a .n) (a .at)) d (c .items-to .ensures)
 
-value-to-symbol-at-requires : (t : ℕ) → value-to-lts.Need-symbol-at-requires (
-  symbol-at-reads.Asked,
-  symbol-at-reads.Learnt,
-  is-leaf-reads.Asked,
-  is-leaf-reads.Learnt,
-  opens-value-reads.Asked,
-  opens-value-reads.Learnt,
-  syntax-at-reads.Asked,
-  syntax-at-reads.Learnt,
-  bracket-at-reads.Asked,
-  bracket-at-reads.Learnt,
-  array-below t,
-  array.Post,
-  tuple-below t,
-  tuple.Post,
-) (value-to-at t) value-to.Post
-value-to-symbol-at-requires t c κs = search needs
-
 value-to-is-leaf-requires : (t : ℕ) → value-to-lts.Need-is-leaf-requires (
-  symbol-at-reads.Asked,
-  symbol-at-reads.Learnt,
   is-leaf-reads.Asked,
   is-leaf-reads.Learnt,
   opens-value-reads.Asked,
@@ -454,8 +457,6 @@ value-to-is-leaf-requires : (t : ℕ) → value-to-lts.Need-is-leaf-requires (
 value-to-is-leaf-requires t c κs = search needs
 
 value-to-add-result : (t : ℕ) → value-to-lts.Need-add-result (
-  symbol-at-reads.Asked,
-  symbol-at-reads.Learnt,
   is-leaf-reads.Asked,
   is-leaf-reads.Learnt,
   opens-value-reads.Asked,
@@ -470,14 +471,13 @@ value-to-add-result : (t : ℕ) → value-to-lts.Need-add-result (
   tuple.Post,
 ) (value-to-at t) value-to.Post
 value-to-add-result t c =
-    let a = c .before .before .before .before .before .args in
+    let s = c .before .before .before .before in
+    let a = s .args in
     let e = sym (c .before .is-leaf .ensures) ∙ c .if1 .taken in
-    let h = leaf-stands (a .text .now) (a .table .now) 0 (a .n) (a .at) (c .before .before .symbol-at .ensures) (leavesOf (a .leaves)) e in
+    let h = leaf-stands (a .text .now) (a .table .now) 0 (a .n) (a .at) (s .pre .1 .1 .1) (leavesOf (a .leaves)) e in
     search needs
 
 value-to-returns : (t : ℕ) → value-to-lts.Need-returns (
-  symbol-at-reads.Asked,
-  symbol-at-reads.Learnt,
   is-leaf-reads.Asked,
   is-leaf-reads.Learnt,
   opens-value-reads.Asked,
@@ -492,15 +492,14 @@ value-to-returns : (t : ℕ) → value-to-lts.Need-returns (
   tuple.Post,
 ) (value-to-at t) value-to.Post
 value-to-returns t c =
-    let a = c .before .before .before .before .before .args in
+    let s = c .before .before .before .before in
+    let a = s .args in
     let e = sym (c .before .is-leaf .ensures) ∙ c .if1 .taken in
-    let x = c .before .before .symbol-at .ensures in
+    let x = s .pre .1 .1 .1 in
     reached-next (a .text .now) (a .table .now) (a .n) (a .at) (leaf-stands (a .text .now) (a .table .now) 0 (a .n) (a .at) x (leavesOf (a .leaves)) e)
     ∙ at-leaf (a .text .now) (a .table .now) (length (a .text .now)) (a .n) (a .at) x (leavesOf (a .leaves)) (a .room) e
 
 value-to-opens-value-requires : (t : ℕ) → value-to-lts.Need-opens-value-requires (
-  symbol-at-reads.Asked,
-  symbol-at-reads.Learnt,
   is-leaf-reads.Asked,
   is-leaf-reads.Learnt,
   opens-value-reads.Asked,
@@ -517,8 +516,6 @@ value-to-opens-value-requires : (t : ℕ) → value-to-lts.Need-opens-value-requ
 value-to-opens-value-requires t c κs = search needs
 
 value-to-syntax-at-requires : (t : ℕ) → value-to-lts.Need-syntax-at-requires (
-  symbol-at-reads.Asked,
-  symbol-at-reads.Learnt,
   is-leaf-reads.Asked,
   is-leaf-reads.Learnt,
   opens-value-reads.Asked,
@@ -535,8 +532,6 @@ value-to-syntax-at-requires : (t : ℕ) → value-to-lts.Need-syntax-at-requires
 value-to-syntax-at-requires t c κs = search needs
 
 value-to-returns-2 : (t : ℕ) → value-to-lts.Need-returns-2 (
-  symbol-at-reads.Asked,
-  symbol-at-reads.Learnt,
   is-leaf-reads.Asked,
   is-leaf-reads.Learnt,
   opens-value-reads.Asked,
@@ -551,15 +546,14 @@ value-to-returns-2 : (t : ℕ) → value-to-lts.Need-returns-2 (
   tuple.Post,
 ) (value-to-at t) value-to.Post
 value-to-returns-2 t c =
-    let a = c .before .before .before .before .before .before .before .before .args in
-    let x = c .before .before .before .before .before .symbol-at .ensures in
+    let s = c .before .before .before .before .before .before .before in
+    let a = s .args in
+    let x = s .pre .1 .1 .1 in
     let f = sym (c .before .before .before .before .is-leaf .ensures) ∙ c .before .before .before .if1 .left in
     let o = sym (c .before .before .opens-value .ensures) ∙ not-true _ (c .before .if2 .taken) in
     at-not (a .text .now) (a .table .now) (length (a .text .now)) (a .n) (a .at) x (leavesOf (a .leaves)) (a .room) f o (c .syntax-at .ensures)
 
 value-to-bracket-at-requires : (t : ℕ) → value-to-lts.Need-bracket-at-requires (
-  symbol-at-reads.Asked,
-  symbol-at-reads.Learnt,
   is-leaf-reads.Asked,
   is-leaf-reads.Learnt,
   opens-value-reads.Asked,
@@ -576,8 +570,6 @@ value-to-bracket-at-requires : (t : ℕ) → value-to-lts.Need-bracket-at-requir
 value-to-bracket-at-requires t c κs = search needs
 
 value-to-returns-3 : (t : ℕ) → value-to-lts.Need-returns-3 (
-  symbol-at-reads.Asked,
-  symbol-at-reads.Learnt,
   is-leaf-reads.Asked,
   is-leaf-reads.Learnt,
   opens-value-reads.Asked,
@@ -592,16 +584,15 @@ value-to-returns-3 : (t : ℕ) → value-to-lts.Need-returns-3 (
   tuple.Post,
 ) (value-to-at t) value-to.Post
 value-to-returns-3 t c =
-    let a = c .before .before .before .before .before .before .before .before .before .args in
-    let x = c .before .before .before .before .before .before .symbol-at .ensures in
+    let s = c .before .before .before .before .before .before .before .before in
+    let a = s .args in
+    let x = s .pre .1 .1 .1 in
     let f = sym (c .before .before .before .before .before .is-leaf .ensures) ∙ c .before .before .before .before .if1 .left in
     let o = sym (c .before .before .before .opens-value .ensures) ∙ not-false _ (c .before .before .if2 .left) in
     at-full (a .text .now) (a .table .now) (length (a .text .now)) (a .n) (a .at) x (leavesOf (a .leaves)) (a .room) f o (c .before .if3 .taken)
     (c .bracket-at .ensures)
 
 value-to-add-array : (t : ℕ) → value-to-lts.Need-add-array (
-  symbol-at-reads.Asked,
-  symbol-at-reads.Learnt,
   is-leaf-reads.Asked,
   is-leaf-reads.Learnt,
   opens-value-reads.Asked,
@@ -616,14 +607,13 @@ value-to-add-array : (t : ℕ) → value-to-lts.Need-add-array (
   tuple.Post,
 ) (value-to-at t) value-to.Post
 value-to-add-array t c =
-    let a = c .before .before .before .before .before .before .before .before .before .args in
+    let s = c .before .before .before .before .before .before .before .before in
+    let a = s .args in
     let o = sym (c .before .before .before .opens-value .ensures) ∙ not-false _ (c .before .before .if2 .left) in
-    let h = open-stands (a .text .now) (a .table .now) 0 (a .n) (a .at) (c .before .before .before .before .before .before .symbol-at .ensures) o in
+    let h = open-stands (a .text .now) (a .table .now) 0 (a .n) (a .at) (s .pre .1 .1 .1) o in
     search needs
 
 value-to-sub-array : (t : ℕ) → value-to-lts.Need-sub-array (
-  symbol-at-reads.Asked,
-  symbol-at-reads.Learnt,
   is-leaf-reads.Asked,
   is-leaf-reads.Learnt,
   opens-value-reads.Asked,
@@ -640,8 +630,6 @@ value-to-sub-array : (t : ℕ) → value-to-lts.Need-sub-array (
 value-to-sub-array t c = search needs
 
 value-to-array-requires : (t : ℕ) → value-to-lts.Need-array-requires (
-  symbol-at-reads.Asked,
-  symbol-at-reads.Learnt,
   is-leaf-reads.Asked,
   is-leaf-reads.Learnt,
   opens-value-reads.Asked,
@@ -656,15 +644,13 @@ value-to-array-requires : (t : ℕ) → value-to-lts.Need-array-requires (
   tuple.Post,
 ) (value-to-at t) value-to.Post
 value-to-array-requires t c κs =
-    let s = c .before .before .before .before .before .before .before .before .before in
+    let s = c .before .before .before .before .before .before .before .before in
     let a = s .args in
     let o = sym (c .before .before .before .opens-value .ensures) ∙ not-false _ (c .before .before .if2 .left) in
-    let h = open-stands (a .text .now) (a .table .now) 0 (a .n) (a .at) (c .before .before .before .before .before .before .symbol-at .ensures) o in
+    let h = open-stands (a .text .now) (a .table .now) 0 (a .n) (a .at) (s .pre .1 .1 .1) o in
     (omega (arith, h, s .pre .0), (s .pre .1 .0, omega (arith, h)))
 
 value-to-returns-4 : (t : ℕ) → value-to-lts.Need-returns-4 (
-  symbol-at-reads.Asked,
-  symbol-at-reads.Learnt,
   is-leaf-reads.Asked,
   is-leaf-reads.Learnt,
   opens-value-reads.Asked,
@@ -679,16 +665,15 @@ value-to-returns-4 : (t : ℕ) → value-to-lts.Need-returns-4 (
   tuple.Post,
 ) (value-to-at t) value-to.Post
 value-to-returns-4 t c =
-    let a = c .before .before .before .before .before .before .before .before .before .before .args in
-    let x = c .before .before .before .before .before .before .before .symbol-at .ensures in
+    let s = c .before .before .before .before .before .before .before .before .before in
+    let a = s .args in
+    let x = s .pre .1 .1 .1 in
     let f = sym (c .before .before .before .before .before .before .is-leaf .ensures) ∙ c .before .before .before .before .before .if1 .left in
     let o = sym (c .before .before .before .before .opens-value .ensures) ∙ not-false _ (c .before .before .before .if2 .left) in
     at-array (a .text .now) (a .table .now) (length (a .text .now)) (a .n) (a .at) x (leavesOf (a .leaves)) (a .room) f o
     (c .before .before .if3 .left) (c .before .if4 .taken) (c .array .ensures)
 
 value-to-add-tuple : (t : ℕ) → value-to-lts.Need-add-tuple (
-  symbol-at-reads.Asked,
-  symbol-at-reads.Learnt,
   is-leaf-reads.Asked,
   is-leaf-reads.Learnt,
   opens-value-reads.Asked,
@@ -703,14 +688,13 @@ value-to-add-tuple : (t : ℕ) → value-to-lts.Need-add-tuple (
   tuple.Post,
 ) (value-to-at t) value-to.Post
 value-to-add-tuple t c =
-    let a = c .before .before .before .before .before .before .before .before .before .args in
+    let s = c .before .before .before .before .before .before .before .before in
+    let a = s .args in
     let o = sym (c .before .before .before .opens-value .ensures) ∙ not-false _ (c .before .before .if2 .left) in
-    let h = open-stands (a .text .now) (a .table .now) 0 (a .n) (a .at) (c .before .before .before .before .before .before .symbol-at .ensures) o in
+    let h = open-stands (a .text .now) (a .table .now) 0 (a .n) (a .at) (s .pre .1 .1 .1) o in
     search needs
 
 value-to-sub-tuple : (t : ℕ) → value-to-lts.Need-sub-tuple (
-  symbol-at-reads.Asked,
-  symbol-at-reads.Learnt,
   is-leaf-reads.Asked,
   is-leaf-reads.Learnt,
   opens-value-reads.Asked,
@@ -727,8 +711,6 @@ value-to-sub-tuple : (t : ℕ) → value-to-lts.Need-sub-tuple (
 value-to-sub-tuple t c = search needs
 
 value-to-tuple-requires : (t : ℕ) → value-to-lts.Need-tuple-requires (
-  symbol-at-reads.Asked,
-  symbol-at-reads.Learnt,
   is-leaf-reads.Asked,
   is-leaf-reads.Learnt,
   opens-value-reads.Asked,
@@ -743,15 +725,13 @@ value-to-tuple-requires : (t : ℕ) → value-to-lts.Need-tuple-requires (
   tuple.Post,
 ) (value-to-at t) value-to.Post
 value-to-tuple-requires t c κs =
-    let s = c .before .before .before .before .before .before .before .before .before in
+    let s = c .before .before .before .before .before .before .before .before in
     let a = s .args in
     let o = sym (c .before .before .before .opens-value .ensures) ∙ not-false _ (c .before .before .if2 .left) in
-    let h = open-stands (a .text .now) (a .table .now) 0 (a .n) (a .at) (c .before .before .before .before .before .before .symbol-at .ensures) o in
+    let h = open-stands (a .text .now) (a .table .now) 0 (a .n) (a .at) (s .pre .1 .1 .1) o in
     (omega (arith, h, s .pre .0), (s .pre .1 .0, omega (arith, h)))
 
 value-to-returns-5 : (t : ℕ) → value-to-lts.Need-returns-5 (
-  symbol-at-reads.Asked,
-  symbol-at-reads.Learnt,
   is-leaf-reads.Asked,
   is-leaf-reads.Learnt,
   opens-value-reads.Asked,
@@ -766,16 +746,17 @@ value-to-returns-5 : (t : ℕ) → value-to-lts.Need-returns-5 (
   tuple.Post,
 ) (value-to-at t) value-to.Post
 value-to-returns-5 t c =
-    let a = c .before .before .before .before .before .before .before .before .before .before .args in
-    let x = c .before .before .before .before .before .before .before .symbol-at .ensures in
+    let s = c .before .before .before .before .before .before .before .before .before in
+    let a = s .args in
+    let x = s .pre .1 .1 .1 in
     let f = sym (c .before .before .before .before .before .before .is-leaf .ensures) ∙ c .before .before .before .before .before .if1 .left in
     let o = sym (c .before .before .before .before .opens-value .ensures) ∙ not-false _ (c .before .before .before .if2 .left) in
     at-tuple (a .text .now) (a .table .now) (length (a .text .now)) (a .n) (a .at) x (leavesOf (a .leaves)) (a .room) f o
     (c .before .before .if3 .left) (c .before .if4 .left) (c .tuple .ensures)
 
-pub +array+item-to+items-to+tuple+value-to-spec : {M : Type 1} → statement M
-+array+item-to+items-to+tuple+value-to-spec =
-    close μ-array μ-item-to μ-items-to μ-tuple μ-value-to (λ t. array-lts.spec (
+pub +array+items-to+tuple+value-to-spec : {M : Type 1} → statement M
++array+items-to+tuple+value-to-spec =
+    close μ-array μ-items-to μ-tuple μ-value-to (λ t. array-lts.spec (
       symbol-at-reads.Asked,
       symbol-at-reads.Learnt,
       items-to-below t,
@@ -788,27 +769,13 @@ pub +array+item-to+items-to+tuple+value-to-spec : {M : Type 1} → statement M
     (array-returns t)
     (array-items-to-requires t)
     (array-returns-2 t))
-    (λ t. item-to-lts.spec (
+    (λ t. items-to-lts.spec (
       symbol-at-reads.Asked,
       symbol-at-reads.Learnt,
       is-leaf-reads.Asked,
       is-leaf-reads.Learnt,
       value-to-below t,
       value-to.Post,
-    )
-    (item-to-at t)
-    item-to.Post
-    (item-to-symbol-at-requires t)
-    (item-to-is-leaf-requires t)
-    (item-to-add-result t)
-    (item-to-returns t)
-    (item-to-value-to-requires t)
-    (item-to-returns-2 t))
-    (λ t. items-to-lts.spec (
-      item-to-below t,
-      item-to.Post,
-      symbol-at-reads.Asked,
-      symbol-at-reads.Learnt,
       expect-to-reads.Asked,
       expect-to-reads.Learnt,
     )
@@ -817,15 +784,20 @@ pub +array+item-to+items-to+tuple+value-to-spec : {M : Type 1} → statement M
     items-to-Inv-loop
     items-to-μ-loop
     (items-to-loop-holds t)
-    (items-to-item-to-requires t)
-    (items-to-returns t)
     (items-to-symbol-at-requires t)
+    (items-to-add-next t)
+    (items-to-is-leaf-requires t)
+    (items-to-value-to-requires t)
+    (items-to-returns t)
+    (items-to-symbol-at-requires-2 t)
     (items-to-expect-to-requires t)
     (items-to-returns-2 t)
     (items-to-add-i t)
     (items-to-loop-less t)
     (items-to-loop-again t))
     (λ t. tuple-lts.spec (
+      symbol-at-reads.Asked,
+      symbol-at-reads.Learnt,
       value-to-below t,
       value-to.Post,
       then-to-reads.Asked,
@@ -835,14 +807,13 @@ pub +array+item-to+items-to+tuple+value-to-spec : {M : Type 1} → statement M
     )
     (tuple-at t)
     tuple.Post
+    (tuple-symbol-at-requires t)
     (tuple-value-to-requires t)
     (tuple-then-to-requires t)
     (tuple-returns t)
     (tuple-items-to-requires t)
     (tuple-returns-2 t))
     λ t. value-to-lts.spec (
-      symbol-at-reads.Asked,
-      symbol-at-reads.Learnt,
       is-leaf-reads.Asked,
       is-leaf-reads.Learnt,
       opens-value-reads.Asked,
@@ -858,7 +829,6 @@ pub +array+item-to+items-to+tuple+value-to-spec : {M : Type 1} → statement M
     )
     (value-to-at t)
     value-to.Post
-    (value-to-symbol-at-requires t)
     (value-to-is-leaf-requires t)
     (value-to-add-result t)
     (value-to-returns t)
