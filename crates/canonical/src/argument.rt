@@ -4,7 +4,8 @@ use crate::place::Place;
 use crate::place::put_mark;
 use crate::place::put_token;
 use crate::value::put_value;
-use documents::arguments::number_of;
+use documents::arguments::is_guessed;
+use documents::arguments::search;
 use documents::arguments::value_end;
 use documents::operation::Operation;
 use documents::operation::code_of;
@@ -67,8 +68,13 @@ fn aim_of(
 {
     if is_label(dtext, dtable, dn, w.at) {
         let name = bytes_at(dtext, dtable, dn, w.at);
+        let p = if is_guessed(ltext, ltable, ln, words, o, name, w.guess) {
+            w.guess
+        } else {
+            search(ltext, ltable, ln, words, o, name)
+        };
         return Aim {
-            number: number_of(ltext, ltable, ln, words, o, name, w.guess),
+            number: p,
             value: w.at + 2,
         };
     }

@@ -1,13 +1,15 @@
 -- The directory as the code reads it: the parameter of a number, the operation of a name, and the records that the code may read.
 -- Relies on `Faultless` for what a list without faults says.
 use mathlib.Core.Path.{_≡_, refl, sym, ap, subst, _∙_}
-use mathlib.Core.Bool.{Bool, true, false, cond, false≢true}
+use mathlib.Core.Bool.{Bool, true, false, cond, false≢true, and-eq-true-iff}
 use mathlib.Core.List.{List, [], _∷_, _++_, flatMap}
 use mathlib.Core.Option.{some}
 use mathlib.Core.Option.{none as nothing}
 use Prim.Native.Nat.{ℕ, zero, suc, _+_, _-_, _*_, _<_, _≤_}
 use native.Mathlib.Omega.{arith}
+use lib.Dec.{ltb}
 use lib.ListN.{length}
+use borrow.Author.Tests.{ltb-true}
 use Rattle.lexis.specs.Sizes.{maxOperations}
 use Rattle.lexis.specs.Words.{sameBytes}
 use Rattle.lexis.specs.Lexer.{Token}
@@ -22,7 +24,7 @@ use Rattle.lists.specs.Directory.OperationsAt.{no-operation, an-operation}
 use Rattle.lists.proofs.First.{first-append}
 use Rattle.lists.proofs.Faultless.{neither, few-params, apart-params}
 use Rattle.documents.specs.declared.operation.Operation.{Operation}
-use Rattle.documents.specs.Tallies.{Copied, ParamsRecorded, NamesBelow, Declares, Nth, speltAt, NumberOf}
+use Rattle.documents.specs.Tallies.{Copied, ParamsRecorded, NamesBelow, Declares, Nth, speltAt, isGuessed, NumberOf}
 use Rattle.documents.specs.Tallies.Nth.{nth-first, after}
 use Rattle.documents.specs.Judged.{Readable}
 
@@ -63,6 +65,12 @@ module _ {text table words : List ℕ} {n : ℕ} where
 module _ {text table words : List ℕ} {o : Operation} {w : List ℕ} {r : ℕ} where
   pub number-here : r < o .count → speltAt text table words (o .first + r) w ≡ true → NumberOf text table words o w r
   number-here l e = record { within = omega arith; spelt = λ m. e; none = λ m. absurd (omega arith) }
+
+  pub number-guessed : isGuessed text table words o w r ≡ true → NumberOf text table words o w r
+  unfolding isGuessed
+  number-guessed e =
+      let p = and-eq-true-iff (ltb r (o .count)) (speltAt text table words (o .first + r) w) .0 e in
+      number-here (ltb-true r (o .count) (p .0)) (p .1)
 
   pub number-none : r ≤ o .count → o .count ≤ r → ((i : ℕ) → i < r → speltAt text table words (o .first + i) w ≡ false) → NumberOf text table words o w r
   number-none l k f = record { within = l; spelt = λ m. absurd (omega arith); none = λ m i z. f i (omega arith) }

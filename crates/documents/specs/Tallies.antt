@@ -2,9 +2,10 @@
 -- argument is for, and what the arguments before a place amount to.
 use mathlib.Core.Path.{_≡_}
 use Prim.Native.Nat.{ℕ, zero, suc, _+_, _-_, _*_, _<_, _≤_, min}
-use mathlib.Core.Bool.{Bool, true, false}
+use mathlib.Core.Bool.{Bool, true, false, _&&_}
 use mathlib.Core.List.{List, [], _∷_, _++_}
 use mathlib.Core.Option.{Option, some}
+use lib.Dec.{ltb}
 use lib.ListN.{length, set}
 use Rattle.lexis.specs.Sizes.{maxBrackets, maxParameters}
 use Rattle.lexis.specs.Words.{sameBytes}
@@ -66,6 +67,10 @@ pub data Nth : ℕ → Param → List Param → Type 0 where
 -- parameter j of the directory is spelt w
 abbrev pub speltAt : List ℕ → List ℕ → List ℕ → ℕ → List ℕ → Bool
 speltAt text table words j w = sameBytes (tokenAt text table (parameterWord words j 0) .bytes) w
+
+-- the guess is the number of a parameter of the operation that is spelt w
+unfoldable pub isGuessed : List ℕ → List ℕ → List ℕ → Operation → List ℕ → ℕ → Bool
+isGuessed text table words o w guess = ltb guess (o .count) && speltAt text table words (o .first + guess) w
 
 -- r is the number of a parameter of the operation that is spelt w, or their count where none is
 pub record NumberOf (text table words : List ℕ) (o : Operation) (w : List ℕ) (r : ℕ) : Type 0 where

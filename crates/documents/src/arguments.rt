@@ -31,7 +31,7 @@ ghost use Rattle.lists.specs.Fault.{fault};
 ghost use Rattle.lists.specs.Best.{meant};
 ghost use Rattle.lists.specs.Fitting.{Within};
 ghost use Rattle.lists.specs.Directory.{firstParameter, parameterWords, parameterWord};
-ghost use Rattle.documents.specs.Tallies.{ParamsRecorded, NamesBelow, speltAt, NumberOf, AimInside, Grown, Onward};
+ghost use Rattle.documents.specs.Tallies.{ParamsRecorded, NamesBelow, speltAt, isGuessed, NumberOf, AimInside, Grown, Onward};
 ghost use Rattle.documents.specs.Tallies.{OfPlace, OfLabel, OfArgument, EndsAt, FitsParameter, OfBound, OfOne, OfAll};
 
 // What the arguments before a place amount to: their first fault, the mask of the parameters that they bind, whether none of them is named, how many there
@@ -65,7 +65,7 @@ fn is_spelt(ltext: &[u8], ltable: &[u32], ln: usize, words: &[u32], j: usize, w:
 }
 
 // The number of the first parameter of the operation that is spelt w, or their count.
-fn search(ltext: &[u8], ltable: &[u32], ln: usize, words: &[u32], o: Operation, w: &[u8]) -> usize
+pub fn search(ltext: &[u8], ltable: &[u32], ln: usize, words: &[u32], o: Operation, w: &[u8]) -> usize
     requires { ⌜ Holds (now ltext) (now ltable) ln ⌝ }
     requires { ⌜ ParamsRecorded (now words) o ⌝ }
     requires { ⌜ NamesBelow (now words) ln o ⌝ }
@@ -81,8 +81,8 @@ fn search(ltext: &[u8], ltable: &[u32], ln: usize, words: &[u32], o: Operation, 
     i
 }
 
-// The number of the parameter of the operation that is spelt w, or their count; the guess is tried first.
-pub fn number_of(
+// Whether the guess is the number of a parameter of the operation that is spelt w. It is, where arguments stand in the order of the parameters.
+pub fn is_guessed(
     ltext: &[u8],
     ltable: &[u32],
     ln: usize,
@@ -90,19 +90,16 @@ pub fn number_of(
     o: Operation,
     w: &[u8],
     guess: usize,
-) -> usize
+) -> bool
     requires { ⌜ Holds (now ltext) (now ltable) ln ⌝ }
     requires { ⌜ ParamsRecorded (now words) o ⌝ }
     requires { ⌜ NamesBelow (now words) ln o ⌝ }
-    ensures { λ r. ⌜ NumberOf (now (ltext .entry)) (now (ltable .entry)) (now (words .entry)) o (now (w .entry)) r ⌝ }
+    ensures { λ r. ⌜ r ≡ isGuessed (now (ltext .entry)) (now (ltable .entry)) (now (words .entry)) o (now (w .entry)) guess ⌝ }
 {
     if o.count <= guess {
-        return search(ltext, ltable, ln, words, o, w);
+        return false;
     }
-    if is_spelt(ltext, ltable, ln, words, o.first + guess, w) {
-        return guess;
-    }
-    search(ltext, ltable, ln, words, o, w)
+    is_spelt(ltext, ltable, ln, words, o.first + guess, w)
 }
 
 // What a positional argument at the tally's place is for.
@@ -159,7 +156,11 @@ fn named(
         (now (ltext .entry)) (now (ltable .entry)) (now (words .entry)) ln o t r ⌝ }
 {
     let w = bytes_at(dtext, dtable, dn, t.at);
-    let p = number_of(ltext, ltable, ln, words, o, w, t.guess);
+    let p = if is_guessed(ltext, ltable, ln, words, o, w, t.guess) {
+        t.guess
+    } else {
+        search(ltext, ltable, ln, words, o, w)
+    };
     let refused = Aim {
         code: Code::MISNAMED,
         number: p,

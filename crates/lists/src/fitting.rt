@@ -23,7 +23,7 @@ ghost use Rattle.lexis.specs.Symbol.{comma};
 ghost use Rattle.syntax.specs.Tree.{Ty, Tys};
 ghost use Rattle.syntax.specs.Tree.Ty.{tupleOf};
 ghost use Rattle.syntax.specs.Table.{toks, Holds};
-ghost use Rattle.syntax.specs.Inner.{theEnd};
+ghost use Rattle.syntax.specs.Inner.{theEnd, lookahead};
 ghost use Rattle.lists.specs.Fitting.{leafFitsAt, isLeafSymbol, leafAnswer, stacked, Several, Columns, OfShape};
 ghost use Rattle.lists.specs.Fitting.{Within, isWhole, OfItem, BaseOf, OfValue, OfArray, OfEach, OfLeft, OfWhole, MatchesResults};
 
@@ -132,12 +132,13 @@ fn both(s: u32, a: u32, w: u32, b: u32) -> bool
     w == b
 }
 
-// Whether the value at place v fits the base at place t, of these kinds, under k pairs of square brackets.
+// Whether the value at place v, which begins with the terminal s, fits the base at place t, of these kinds, under k pairs of square brackets.
 fn fits_base(
     vtext: &[u8],
     vtable: &[u32],
     vn: usize,
     v: usize,
+    s: u32,
     ttext: &[u8],
     ttable: &[u32],
     tn: usize,
@@ -147,18 +148,18 @@ fn fits_base(
 ) -> usize
     requires { ⌜ Holds (now vtext) (now vtable) vn ⌝ }
     requires { ⌜ Holds (now ttext) (now ttable) tn ⌝ }
+    requires { ⌜ s ≡ lookahead (toks (now vtext) (now vtable) vn v) ⌝ }
     ensures range { λ r. ⌜ Within vn v r ⌝ }
     ensures meaning { λ r. ⌜ OfValue (now (vtext .entry)) (now (vtable .entry)) vn v (toks (now (ttext .entry)) (now (ttable .entry)) tn t) kinds k r ⌝ }
 {
-    let s = symbol_at(vtext, vtable, vn, v);
-    if is_leaf(s) {
-        return fits_leaf(vtext, vtable, vn, v, kinds, k);
-    }
     if s == Symbol::LEFT_SQUARE {
         if k == 0 {
             return MISFIT;
         }
         return fits_array(vtext, vtable, vn, v + 1, ttext, ttable, tn, t, kinds, k - 1);
+    }
+    if is_leaf(s) {
+        return fits_leaf(vtext, vtable, vn, v, kinds, k);
     }
     if k != 0 {
         return MISFIT;
@@ -193,10 +194,11 @@ fn fits_one(
     ensures range { λ r. ⌜ Within vn v r ⌝ }
     ensures meaning { λ r. ⌜ OfValue (now (vtext .entry)) (now (vtable .entry)) vn v (toks (now (ttext .entry)) (now (ttable .entry)) tn t) kinds k r ⌝ }
 {
-    if is_leaf(symbol_at(vtext, vtable, vn, v)) {
+    let s = symbol_at(vtext, vtable, vn, v);
+    if is_leaf(s) {
         return fits_leaf(vtext, vtable, vn, v, kinds, k);
     }
-    fits_base(vtext, vtable, vn, v, ttext, ttable, tn, t, kinds, k)
+    fits_base(vtext, vtable, vn, v, s, ttext, ttable, tn, t, kinds, k)
 }
 
 // Whether the items of the array after its bracket at place v fit the base at place t under k pairs of square brackets.
@@ -222,7 +224,12 @@ fn fits_array(
     }
     let mut i = v;
     loop {
-        let next = fits_one(vtext, vtable, vn, i, ttext, ttable, tn, t, kinds, k);
+        let c = symbol_at(vtext, vtable, vn, i);
+        let next = if is_leaf(c) {
+            fits_leaf(vtext, vtable, vn, i, kinds, k)
+        } else {
+            fits_base(vtext, vtable, vn, i, c, ttext, ttable, tn, t, kinds, k)
+        };
         if next == MISFIT {
             return MISFIT;
         }
@@ -339,7 +346,8 @@ fn matches_one(
     ensures { λ r. ⌜ ((c : ℕ) (w : Ty) (ws : List Token) → BaseOf kinds c (toks (now (ltext .entry)) (now (ltable .entry)) ln t) w ws
         → OfLeft (now (dtext .entry)) (now (dtable .entry)) dn at (stacked k w) r) ⌝ }
 {
-    let whole = fits_base(dtext, dtable, dn, at, ltext, ltable, ln, t, kinds, k);
+    let s = symbol_at(dtext, dtable, dn, at);
+    let whole = fits_base(dtext, dtable, dn, at, s, ltext, ltable, ln, t, kinds, k);
     if is_whole(dtext, dtable, dn, whole) {
         return true;
     }

@@ -2,12 +2,13 @@
 -- where a leaf is settled first, and where items are met. The loops keep that the answer for the items left is the answer for all. What each way
 -- answers is a law of `Answers`.
 use mathlib.Core.Path.{refl, sym, _∙_}
+use mathlib.Core.Logic.{⊎-elim}
 use Prim.Native.Nat.{_+_, _-_, _*_, _≤_}
 use native.Mathlib.Omega.{arith}
 use borrow.Author.Tests.{not-true, not-false}
 use Rattle.syntax.specs.Table.{toks}
 use Rattle.syntax.proofs.Symbols.{stands, stands-by}
-use Rattle.lists.specs.Fitting.{isLeafSymbol, OfArray, OfEach}
+use Rattle.lists.specs.Fitting.{isLeafSymbol, Within, OfValue, OfArray, OfEach}
 use lib.ListN.{getD}
 use Rattle.lists.proofs.Answers.{none-within, one-within, wider, never}
 use Rattle.lists.proofs.Answers.{array-flat, array-deep, flat-deep, tuple-word, tuple-each, leaf-answer, leaf-within}
@@ -88,16 +89,24 @@ fits-array-μ-loop vtext vtable vn v ttext ttable tn t kinds k i₀ i = vn - i
 fits-array-symbol-at-requires : (t : ℕ) → fits-array-lts.Need-symbol-at-requires (
   symbol-at-reads.Asked,
   symbol-at-reads.Learnt,
-  fits-one-below t,
-  fits-one.Post,
+  is-leaf-reads.Asked,
+  is-leaf-reads.Learnt,
+  fits-leaf-reads.Asked,
+  fits-leaf-reads.Learnt,
+  fits-base-below t,
+  fits-base.Post,
 ) (fits-array-at t) fits-array.Post fits-array-Inv-loop fits-array-μ-loop
 fits-array-symbol-at-requires t c κs = search needs
 
 fits-array-add-result : (t : ℕ) → fits-array-lts.Need-add-result (
   symbol-at-reads.Asked,
   symbol-at-reads.Learnt,
-  fits-one-below t,
-  fits-one.Post,
+  is-leaf-reads.Asked,
+  is-leaf-reads.Learnt,
+  fits-leaf-reads.Asked,
+  fits-leaf-reads.Learnt,
+  fits-base-below t,
+  fits-base.Post,
 ) (fits-array-at t) fits-array.Post fits-array-Inv-loop fits-array-μ-loop
 fits-array-add-result t c =
     let e = c .before in
@@ -111,8 +120,12 @@ fits-array-add-result t c =
 fits-array-returns : (t : ℕ) → fits-array-lts.Need-returns (
   symbol-at-reads.Asked,
   symbol-at-reads.Learnt,
-  fits-one-below t,
-  fits-one.Post,
+  is-leaf-reads.Asked,
+  is-leaf-reads.Learnt,
+  fits-leaf-reads.Asked,
+  fits-leaf-reads.Learnt,
+  fits-base-below t,
+  fits-base.Post,
 ) (fits-array-at t) fits-array.Post fits-array-Inv-loop fits-array-μ-loop
 fits-array-returns t c =
     let e = c .before in
@@ -128,8 +141,12 @@ fits-array-returns t c =
 fits-array-loop-holds : (t : ℕ) → fits-array-lts.Need-loop-holds (
   symbol-at-reads.Asked,
   symbol-at-reads.Learnt,
-  fits-one-below t,
-  fits-one.Post,
+  is-leaf-reads.Asked,
+  is-leaf-reads.Learnt,
+  fits-leaf-reads.Asked,
+  fits-leaf-reads.Learnt,
+  fits-base-below t,
+  fits-base.Post,
 ) (fits-array-at t) fits-array.Post fits-array-Inv-loop fits-array-μ-loop
 fits-array-loop-holds t c =
     let e = c .before in
@@ -141,243 +158,91 @@ fits-array-loop-holds t c =
     let x = e .symbol-at in
     (omega arith, λ r h. array-some text table n (a .v) ts (a .kinds) (a .k) (x .result) (x .ensures) r (c .if1 .left) h)
 
-fits-array-fits-one-requires : (t : ℕ) → fits-array-lts.Need-fits-one-requires (
-  symbol-at-reads.Asked,
-  symbol-at-reads.Learnt,
-  fits-one-below t,
-  fits-one.Post,
-) (fits-array-at t) fits-array.Post fits-array-Inv-loop fits-array-μ-loop
-fits-array-fits-one-requires t c κs =
-    let e = c .before .before in
-    let s = e .before .before .before .before .before in
-    (omega (arith, s .pre .0, c .loop .inv .0), (s .pre .1 .0, s .pre .1 .1))
-
-fits-array-returns-2 : (t : ℕ) → fits-array-lts.Need-returns-2 (
-  symbol-at-reads.Asked,
-  symbol-at-reads.Learnt,
-  fits-one-below t,
-  fits-one.Post,
-) (fits-array-at t) fits-array.Post fits-array-Inv-loop fits-array-μ-loop
-fits-array-returns-2 t c =
-    let at-one = c .before in
-    let l = at-one .before .loop in
-    let s = at-one .before .before .before .before .before .before .before .before in
-    let a = s .args in
-    let text = a .vtext .now in
-    let table = a .vtable .now in
-    let n = a .vn in
-    let ts = toks (a .ttext .now) (a .ttable .now) (a .tn) (a .t) in
-    let x = at-one .fits-one in
-    (none-within n (a .v), l .inv .1 0 (items-no text table n (l .i) ts (a .kinds) (a .k) (x .result) (x .ensures .1) (c .if2 .taken)))
-
 fits-array-symbol-at-requires-2 : (t : ℕ) → fits-array-lts.Need-symbol-at-requires-2 (
   symbol-at-reads.Asked,
   symbol-at-reads.Learnt,
-  fits-one-below t,
-  fits-one.Post,
+  is-leaf-reads.Asked,
+  is-leaf-reads.Learnt,
+  fits-leaf-reads.Asked,
+  fits-leaf-reads.Learnt,
+  fits-base-below t,
+  fits-base.Post,
 ) (fits-array-at t) fits-array.Post fits-array-Inv-loop fits-array-μ-loop
 fits-array-symbol-at-requires-2 t c κs = search needs
 
-fits-array-add-result-2 : (t : ℕ) → fits-array-lts.Need-add-result-2 (
-  symbol-at-reads.Asked,
-  symbol-at-reads.Learnt,
-  fits-one-below t,
-  fits-one.Post,
-) (fits-array-at t) fits-array.Post fits-array-Inv-loop fits-array-μ-loop
-fits-array-add-result-2 t c =
-    let at-one = c .before .before .before in
-    let l = at-one .before .loop in
-    let s = at-one .before .before .before .before .before .before .before .before in
-    let a = s .args in
-    let text = a .vtext .now in
-    let table = a .vtable .now in
-    let n = a .vn in
-    let x = at-one .fits-one in
-    let h = stands text table n (x .result) (sym (c .if3 .taken) ∙ c .before .symbol-at2 .ensures) (omega arith) in
-    let f = s .fits in
-    search needs
-
-fits-array-returns-3 : (t : ℕ) → fits-array-lts.Need-returns-3 (
-  symbol-at-reads.Asked,
-  symbol-at-reads.Learnt,
-  fits-one-below t,
-  fits-one.Post,
-) (fits-array-at t) fits-array.Post fits-array-Inv-loop fits-array-μ-loop
-fits-array-returns-3 t c =
-    let at-one = c .before .before .before in
-    let l = at-one .before .loop in
-    let s = at-one .before .before .before .before .before .before .before .before in
-    let a = s .args in
-    let text = a .vtext .now in
-    let table = a .vtable .now in
-    let n = a .vn in
-    let ts = toks (a .ttext .now) (a .ttable .now) (a .tn) (a .t) in
-    let x = at-one .fits-one in
-    let y = c .before .symbol-at2 in
-    let h = stands text table n (x .result) (sym (c .if3 .taken) ∙ y .ensures) (omega arith) in
-    let p : 0 < x .result = omega (arith, c .before .before .if2 .left) in
-    let w = x .ensures .0 .past p in (
-      one-within n (a .v) (x .result) (omega (arith, w, l .inv .0)) h,
-      l .inv .1 (x .result + 1) (items-last text table n (l .i) ts (a .kinds) (a .k) (x .result) (x .ensures .1) (y .result) p (y .ensures) (c .if3 .taken)),
-    )
-
-fits-array-returns-4 : (t : ℕ) → fits-array-lts.Need-returns-4 (
-  symbol-at-reads.Asked,
-  symbol-at-reads.Learnt,
-  fits-one-below t,
-  fits-one.Post,
-) (fits-array-at t) fits-array.Post fits-array-Inv-loop fits-array-μ-loop
-fits-array-returns-4 t c =
-    let at-one = c .before .before .before .before in
-    let l = at-one .before .loop in
-    let s = at-one .before .before .before .before .before .before .before .before in
-    let a = s .args in
-    let text = a .vtext .now in
-    let table = a .vtable .now in
-    let n = a .vn in
-    let ts = toks (a .ttext .now) (a .ttable .now) (a .tn) (a .t) in
-    let x = at-one .fits-one in
-    let y = c .before .before .symbol-at2 in
-    let p : 0 < x .result = omega (arith, c .before .before .before .if2 .left) in
-    let w = x .ensures .0 .past p in (
-      none-within n (a .v),
-      l .inv .1 0 (items-neither text table n (l .i) ts (a .kinds) (a .k) (x .result) (x .ensures .1) (y .result) p (y .ensures) 0
-          (c .before .if3 .left) (c .if4 .taken)),
-    )
-
-fits-array-add-i : (t : ℕ) → fits-array-lts.Need-add-i (
-  symbol-at-reads.Asked,
-  symbol-at-reads.Learnt,
-  fits-one-below t,
-  fits-one.Post,
-) (fits-array-at t) fits-array.Post fits-array-Inv-loop fits-array-μ-loop
-fits-array-add-i t c =
-    let at-one = c .before .before .before .before in
-    let l = at-one .before .loop in
-    let s = at-one .before .before .before .before .before .before .before .before in
-    let a = s .args in
-    let text = a .vtext .now in
-    let table = a .vtable .now in
-    let n = a .vn in
-    let x = at-one .fits-one in
-    let h = stands text table n (x .result) (sym (c .if4 .left) ∙ c .before .before .symbol-at2 .ensures) (omega arith) in
-    let f = s .fits in
-    search needs
-
-fits-array-loop-less : (t : ℕ) → fits-array-lts.Need-loop-less (
-  symbol-at-reads.Asked,
-  symbol-at-reads.Learnt,
-  fits-one-below t,
-  fits-one.Post,
-) (fits-array-at t) fits-array.Post fits-array-Inv-loop fits-array-μ-loop
-fits-array-loop-less t c =
-    let at-one = c .before .before .before .before in
-    let l = at-one .before .loop in
-    let s = at-one .before .before .before .before .before .before .before .before in
-    let a = s .args in
-    let x = at-one .fits-one in
-    let p : 0 < x .result = omega (arith, c .before .before .before .if2 .left) in
-    let w = x .ensures .0 .past p in
-    omega (arith, w, x .ensures .0 .inside)
-
-fits-array-loop-again : (t : ℕ) → fits-array-lts.Need-loop-again (
-  symbol-at-reads.Asked,
-  symbol-at-reads.Learnt,
-  fits-one-below t,
-  fits-one.Post,
-) (fits-array-at t) fits-array.Post fits-array-Inv-loop fits-array-μ-loop
-fits-array-loop-again t c =
-    let at-one = c .before .before .before .before in
-    let l = at-one .before .loop in
-    let s = at-one .before .before .before .before .before .before .before .before in
-    let a = s .args in
-    let text = a .vtext .now in
-    let table = a .vtable .now in
-    let n = a .vn in
-    let ts = toks (a .ttext .now) (a .ttable .now) (a .tn) (a .t) in
-    let x = at-one .fits-one in
-    let y = c .before .before .symbol-at2 in
-    let p : 0 < x .result = omega (arith, c .before .before .before .if2 .left) in
-    let w = x .ensures .0 .past p in (
-      omega (arith, w, l .inv .0),
-      λ r h. l .inv .1 r
-          (items-next text table n (l .i) ts (a .kinds) (a .k) (x .result) (x .ensures .1) (y .result) p (y .ensures) r (c .if4 .left) h),
-    )
-
-fits-base-symbol-at-requires : (t : ℕ) → fits-base-lts.Need-symbol-at-requires (
+fits-array-is-leaf-requires : (t : ℕ) → fits-array-lts.Need-is-leaf-requires (
   symbol-at-reads.Asked,
   symbol-at-reads.Learnt,
   is-leaf-reads.Asked,
   is-leaf-reads.Learnt,
   fits-leaf-reads.Asked,
   fits-leaf-reads.Learnt,
-  fits-array-below t,
-  fits-array.Post,
-  both-reads.Asked,
-  both-reads.Learnt,
-  fits-each-below t,
-  fits-each.Post,
-) (fits-base-at t) fits-base.Post
-fits-base-symbol-at-requires t c κs = search needs
+  fits-base-below t,
+  fits-base.Post,
+) (fits-array-at t) fits-array.Post fits-array-Inv-loop fits-array-μ-loop
+fits-array-is-leaf-requires t c κs = search needs
 
-fits-base-is-leaf-requires : (t : ℕ) → fits-base-lts.Need-is-leaf-requires (
+fits-array-fits-leaf-requires : (t : ℕ) → fits-array-lts.Need-fits-leaf-requires (
   symbol-at-reads.Asked,
   symbol-at-reads.Learnt,
   is-leaf-reads.Asked,
   is-leaf-reads.Learnt,
   fits-leaf-reads.Asked,
   fits-leaf-reads.Learnt,
-  fits-array-below t,
-  fits-array.Post,
-  both-reads.Asked,
-  both-reads.Learnt,
-  fits-each-below t,
-  fits-each.Post,
-) (fits-base-at t) fits-base.Post
-fits-base-is-leaf-requires t c κs = search needs
-
-fits-base-fits-leaf-requires : (t : ℕ) → fits-base-lts.Need-fits-leaf-requires (
-  symbol-at-reads.Asked,
-  symbol-at-reads.Learnt,
-  is-leaf-reads.Asked,
-  is-leaf-reads.Learnt,
-  fits-leaf-reads.Asked,
-  fits-leaf-reads.Learnt,
-  fits-array-below t,
-  fits-array.Post,
-  both-reads.Asked,
-  both-reads.Learnt,
-  fits-each-below t,
-  fits-each.Post,
-) (fits-base-at t) fits-base.Post
-fits-base-fits-leaf-requires t c κs =
+  fits-base-below t,
+  fits-base.Post,
+) (fits-array-at t) fits-array.Post fits-array-Inv-loop fits-array-μ-loop
+fits-array-fits-leaf-requires t c κs =
     let e = c .before .before in
-    let s = e .before .before .before .before .before in
+    let l = e .before .loop in
+    let s = e .before .before .before .before .before .before .before .before in
     let a = s .args in
-    let text = a .vtext .now in
-    let table = a .vtable .now in
-    let n = a .vn in
-    let leaf = sym (c .before .is-leaf .ensures) ∙ c .if1 .taken in
-    (s .pre .1 .0, stands-by text table n (a .v) isLeafSymbol refl (e .symbol-at .ensures) leaf)
+    let leaf = sym (c .before .is-leaf .ensures) ∙ c .if2 .taken in
+    (s .pre .1 .0, stands-by (a .vtext .now) (a .vtable .now) (a .vn) (l .i) isLeafSymbol refl (e .symbol-at2 .ensures) leaf)
 
-fits-base-returns : (t : ℕ) → fits-base-lts.Need-returns (
+fits-array-fits-base-requires : (t : ℕ) → fits-array-lts.Need-fits-base-requires (
   symbol-at-reads.Asked,
   symbol-at-reads.Learnt,
   is-leaf-reads.Asked,
   is-leaf-reads.Learnt,
   fits-leaf-reads.Asked,
   fits-leaf-reads.Learnt,
-  fits-array-below t,
-  fits-array.Post,
-  both-reads.Asked,
-  both-reads.Learnt,
-  fits-each-below t,
-  fits-each.Post,
-) (fits-base-at t) fits-base.Post
-fits-base-returns t c =
-    let at-leaf = c .before .before in
-    let e = at-leaf .before in
-    let known = e .before .before .before .before in
+  fits-base-below t,
+  fits-base.Post,
+) (fits-array-at t) fits-array.Post fits-array-Inv-loop fits-array-μ-loop
+fits-array-fits-base-requires t c κs =
+    let e = c .before .before in
+    let l = e .before .loop in
+    let s = e .before .before .before .before .before .before .before .before in
+    (omega (arith, s .pre .0, l .inv .0), (s .pre .1 .0, (s .pre .1 .1, e .symbol-at2 .ensures)))
+
+-- where the ways of a leaf and of another item meet
+abbrev fits-array-meeting : ℕ → Type 0
+fits-array-meeting t = fits-array-lts.Joined2 (
+  symbol-at-reads.Asked,
+  symbol-at-reads.Learnt,
+  is-leaf-reads.Asked,
+  is-leaf-reads.Learnt,
+  fits-leaf-reads.Asked,
+  fits-leaf-reads.Learnt,
+  fits-base-below t,
+  fits-base.Post,
+) (fits-array-at t) fits-array.Post fits-array-Inv-loop fits-array-μ-loop
+
+-- what is known there: the answer is that of the item
+abbrev fits-array-Answered : (t : ℕ) → fits-array-meeting t → Type 0
+fits-array-Answered t j =
+    let i = j .before .before .before .loop .i in
+    let a = j .before .before .before .before .before .before .before .before .before .before .args in
+    Within (a .vn) i (j .if2 .next)
+    × OfValue (a .vtext .now) (a .vtable .now) (a .vn) i (toks (a .ttext .now) (a .ttable .now) (a .tn) (a .t)) (a .kinds) (a .k) (j .if2 .next)
+
+fits-array-answered : (t : ℕ) (j : fits-array-meeting t) → fits-array-Answered t j
+fits-array-answered t j =
+    let at-leaf = j .before in
+    let x = at-leaf .before .symbol-at2 in
+    let i = at-leaf .before .before .loop .i in
+    let known = at-leaf .before .before .before .before .before .before .before .before in
     let s = known .before in
     let a = s .args in
     let text = a .vtext .now in
@@ -386,33 +251,226 @@ fits-base-returns t c =
     let ttext = a .ttext .now in
     let ttable = a .ttable .now in
     let tn = a .tn in
-    let x = e .symbol-at in
-    let leaf = sym (at-leaf .is-leaf .ensures) ∙ c .before .if1 .taken in
-    let h = stands-by text table n (a .v) isLeafSymbol refl (x .ensures) leaf in
-    let bytes : (j : ℕ) → getD (a .vtext .now) j 0 < 256 = λ j. omega (arith, known .shared-slice-known .given j) in
-    let r = c .fits-leaf in (
-      leaf-within text table n (a .v) ttext ttable tn (a .t) (a .k) (x .result) (x .ensures) (s .pre .1 .0) bytes h leaf (a .kinds) (r .result) (r .ensures),
-      leaf-answer text table n (a .v) ttext ttable tn (a .t) (a .k) (x .result) (x .ensures) (s .pre .1 .0) bytes h leaf (a .kinds) (r .result) (r .ensures),
-    )
+    let bytes : (b : ℕ) → getD (a .vtext .now) b 0 < 256 = λ b. omega (arith, known .shared-slice-known .given b) in
+    ⊎-elim (λ w.
+      let leaf = sym (at-leaf .is-leaf .ensures) ∙ w .0 .taken in
+      let h = stands-by text table n i isLeafSymbol refl (x .ensures) leaf in
+      let e = w .2 ∙ w .1 .ensures in (
+        leaf-within text table n i ttext ttable tn (a .t) (a .k) (x .result) (x .ensures) (s .pre .1 .0) bytes h leaf (a .kinds) (j .if2 .next) e,
+        leaf-answer text table n i ttext ttable tn (a .t) (a .k) (x .result) (x .ensures) (s .pre .1 .0) bytes h leaf (a .kinds) (j .if2 .next) e,
+      ))
+    (λ w. rw (w .2) (w .1 .ensures .0, w .1 .ensures .1))
+    (j .if2 .came)
 
-fits-base-returns-2 : (t : ℕ) → fits-base-lts.Need-returns-2 (
+fits-array-returns-2 : (t : ℕ) → fits-array-lts.Need-returns-2 (
   symbol-at-reads.Asked,
   symbol-at-reads.Learnt,
   is-leaf-reads.Asked,
   is-leaf-reads.Learnt,
   fits-leaf-reads.Asked,
   fits-leaf-reads.Learnt,
+  fits-base-below t,
+  fits-base.Post,
+) (fits-array-at t) fits-array.Post fits-array-Inv-loop fits-array-μ-loop
+fits-array-returns-2 t c =
+    let j = c .before in
+    let l = j .before .before .before .loop in
+    let s = j .before .before .before .before .before .before .before .before .before .before in
+    let a = s .args in
+    let text = a .vtext .now in
+    let table = a .vtable .now in
+    let n = a .vn in
+    let ts = toks (a .ttext .now) (a .ttable .now) (a .tn) (a .t) in
+    let x = fits-array-answered t j in
+    (none-within n (a .v), l .inv .1 0 (items-no text table n (l .i) ts (a .kinds) (a .k) (j .if2 .next) (x .1) (c .if3 .taken)))
+
+fits-array-symbol-at-requires-3 : (t : ℕ) → fits-array-lts.Need-symbol-at-requires-3 (
+  symbol-at-reads.Asked,
+  symbol-at-reads.Learnt,
+  is-leaf-reads.Asked,
+  is-leaf-reads.Learnt,
+  fits-leaf-reads.Asked,
+  fits-leaf-reads.Learnt,
+  fits-base-below t,
+  fits-base.Post,
+) (fits-array-at t) fits-array.Post fits-array-Inv-loop fits-array-μ-loop
+fits-array-symbol-at-requires-3 t c κs = search needs
+
+fits-array-add-result-2 : (t : ℕ) → fits-array-lts.Need-add-result-2 (
+  symbol-at-reads.Asked,
+  symbol-at-reads.Learnt,
+  is-leaf-reads.Asked,
+  is-leaf-reads.Learnt,
+  fits-leaf-reads.Asked,
+  fits-leaf-reads.Learnt,
+  fits-base-below t,
+  fits-base.Post,
+) (fits-array-at t) fits-array.Post fits-array-Inv-loop fits-array-μ-loop
+fits-array-add-result-2 t c =
+    let d = c .before in
+    let j = d .before .before .before in
+    let l = j .before .before .before .loop in
+    let s = j .before .before .before .before .before .before .before .before .before .before in
+    let a = s .args in
+    let text = a .vtext .now in
+    let table = a .vtable .now in
+    let n = a .vn in
+    let h = stands text table n (j .if2 .next) (sym (d .if4 .taken) ∙ d .before .symbol-at3 .ensures) (omega arith) in
+    let f = s .fits in
+    search needs
+
+fits-array-returns-3 : (t : ℕ) → fits-array-lts.Need-returns-3 (
+  symbol-at-reads.Asked,
+  symbol-at-reads.Learnt,
+  is-leaf-reads.Asked,
+  is-leaf-reads.Learnt,
+  fits-leaf-reads.Asked,
+  fits-leaf-reads.Learnt,
+  fits-base-below t,
+  fits-base.Post,
+) (fits-array-at t) fits-array.Post fits-array-Inv-loop fits-array-μ-loop
+fits-array-returns-3 t c =
+    let d = c .before in
+    let j = d .before .before .before in
+    let l = j .before .before .before .loop in
+    let s = j .before .before .before .before .before .before .before .before .before .before in
+    let a = s .args in
+    let text = a .vtext .now in
+    let table = a .vtable .now in
+    let n = a .vn in
+    let x = fits-array-answered t j in
+    let y = d .before .symbol-at3 in
+    let p : 0 < j .if2 .next = omega (arith, d .before .before .if3 .left) in
+    let ts = toks (a .ttext .now) (a .ttable .now) (a .tn) (a .t) in
+    let h = stands text table n (j .if2 .next) (sym (d .if4 .taken) ∙ y .ensures) (omega arith) in
+    let w = x .0 .past p in (
+      one-within n (a .v) (j .if2 .next) (omega (arith, w, l .inv .0)) h,
+      l .inv .1 (j .if2 .next + 1) (items-last text table n (l .i) ts (a .kinds) (a .k) (j .if2 .next) (x .1) (y .result) p (y .ensures) (d .if4 .taken)),
+    )
+
+fits-array-returns-4 : (t : ℕ) → fits-array-lts.Need-returns-4 (
+  symbol-at-reads.Asked,
+  symbol-at-reads.Learnt,
+  is-leaf-reads.Asked,
+  is-leaf-reads.Learnt,
+  fits-leaf-reads.Asked,
+  fits-leaf-reads.Learnt,
+  fits-base-below t,
+  fits-base.Post,
+) (fits-array-at t) fits-array.Post fits-array-Inv-loop fits-array-μ-loop
+fits-array-returns-4 t c =
+    let d = c .before in
+    let j = d .before .before .before in
+    let l = j .before .before .before .loop in
+    let s = j .before .before .before .before .before .before .before .before .before .before in
+    let a = s .args in
+    let text = a .vtext .now in
+    let table = a .vtable .now in
+    let n = a .vn in
+    let x = fits-array-answered t j in
+    let y = d .before .symbol-at3 in
+    let p : 0 < j .if2 .next = omega (arith, d .before .before .if3 .left) in
+    let ts = toks (a .ttext .now) (a .ttable .now) (a .tn) (a .t) in (
+      none-within n (a .v),
+      l .inv .1 0 (items-neither text table n (l .i) ts (a .kinds) (a .k) (j .if2 .next) (x .1) (y .result) p (y .ensures) 0 (d .if4 .left) (c .if5 .taken)),
+    )
+
+fits-array-add-i : (t : ℕ) → fits-array-lts.Need-add-i (
+  symbol-at-reads.Asked,
+  symbol-at-reads.Learnt,
+  is-leaf-reads.Asked,
+  is-leaf-reads.Learnt,
+  fits-leaf-reads.Asked,
+  fits-leaf-reads.Learnt,
+  fits-base-below t,
+  fits-base.Post,
+) (fits-array-at t) fits-array.Post fits-array-Inv-loop fits-array-μ-loop
+fits-array-add-i t c =
+    let b = c .before in
+    let d = b .before in
+    let j = d .before .before .before in
+    let l = j .before .before .before .loop in
+    let s = j .before .before .before .before .before .before .before .before .before .before in
+    let a = s .args in
+    let text = a .vtext .now in
+    let table = a .vtable .now in
+    let n = a .vn in
+    let h = stands text table n (j .if2 .next) (sym (b .if5 .left) ∙ d .before .symbol-at3 .ensures) (omega arith) in
+    let f = s .fits in
+    search needs
+
+fits-array-loop-less : (t : ℕ) → fits-array-lts.Need-loop-less (
+  symbol-at-reads.Asked,
+  symbol-at-reads.Learnt,
+  is-leaf-reads.Asked,
+  is-leaf-reads.Learnt,
+  fits-leaf-reads.Asked,
+  fits-leaf-reads.Learnt,
+  fits-base-below t,
+  fits-base.Post,
+) (fits-array-at t) fits-array.Post fits-array-Inv-loop fits-array-μ-loop
+fits-array-loop-less t c =
+    let d = c .before .before in
+    let j = d .before .before .before in
+    let l = j .before .before .before .loop in
+    let s = j .before .before .before .before .before .before .before .before .before .before in
+    let a = s .args in
+    let text = a .vtext .now in
+    let table = a .vtable .now in
+    let n = a .vn in
+    let x = fits-array-answered t j in
+    let y = d .before .symbol-at3 in
+    let p : 0 < j .if2 .next = omega (arith, d .before .before .if3 .left) in
+    let w = x .0 .past p in
+    omega (arith, w, x .0 .inside)
+
+fits-array-loop-again : (t : ℕ) → fits-array-lts.Need-loop-again (
+  symbol-at-reads.Asked,
+  symbol-at-reads.Learnt,
+  is-leaf-reads.Asked,
+  is-leaf-reads.Learnt,
+  fits-leaf-reads.Asked,
+  fits-leaf-reads.Learnt,
+  fits-base-below t,
+  fits-base.Post,
+) (fits-array-at t) fits-array.Post fits-array-Inv-loop fits-array-μ-loop
+fits-array-loop-again t c =
+    let b = c .before in
+    let d = b .before in
+    let j = d .before .before .before in
+    let l = j .before .before .before .loop in
+    let s = j .before .before .before .before .before .before .before .before .before .before in
+    let a = s .args in
+    let text = a .vtext .now in
+    let table = a .vtable .now in
+    let n = a .vn in
+    let x = fits-array-answered t j in
+    let y = d .before .symbol-at3 in
+    let p : 0 < j .if2 .next = omega (arith, d .before .before .if3 .left) in
+    let ts = toks (a .ttext .now) (a .ttable .now) (a .tn) (a .t) in
+    let w = x .0 .past p in (
+      omega (arith, w, l .inv .0),
+      λ r h. l .inv .1 r
+          (items-next text table n (l .i) ts (a .kinds) (a .k) (j .if2 .next) (x .1) (y .result) p (y .ensures) r (b .if5 .left) h),
+    )
+
+fits-base-returns : (t : ℕ) → fits-base-lts.Need-returns (
   fits-array-below t,
   fits-array.Post,
+  is-leaf-reads.Asked,
+  is-leaf-reads.Learnt,
+  fits-leaf-reads.Asked,
+  fits-leaf-reads.Learnt,
+  symbol-at-reads.Asked,
+  symbol-at-reads.Learnt,
   both-reads.Asked,
   both-reads.Learnt,
   fits-each-below t,
   fits-each.Post,
 ) (fits-base-at t) fits-base.Post
-fits-base-returns-2 t c =
-    let at-if2 = c .before in
-    let e = at-if2 .before .before .before in
-    let s = e .before .before .before .before .before in
+fits-base-returns t c =
+    let at-if1 = c .before in
+    let s = at-if1 .before .before .before .before .before in
     let a = s .args in
     let text = a .vtext .now in
     let table = a .vtable .now in
@@ -420,47 +478,46 @@ fits-base-returns-2 t c =
     let ttext = a .ttext .now in
     let ttable = a .ttable .now in
     let tn = a .tn in
-    let x = e .symbol-at in (
+    let sees = s .pre .1 .1 .1 in (
       none-within n (a .v),
-      never text table n (a .v) ttext ttable tn (a .t) (a .k) (x .result) (x .ensures)
-          (array-flat text table n (a .v) ttext ttable tn (a .t) (a .k) (x .result) (x .ensures) (at-if2 .if2 .taken) (c .if3 .taken)),
+      never text table n (a .v) ttext ttable tn (a .t) (a .k) (a .s) sees
+          (array-flat text table n (a .v) ttext ttable tn (a .t) (a .k) (a .s) sees (at-if1 .if1 .taken) (c .if2 .taken)),
     )
 
 fits-base-add-fits-array : (t : ℕ) → fits-base-lts.Need-add-fits-array (
-  symbol-at-reads.Asked,
-  symbol-at-reads.Learnt,
+  fits-array-below t,
+  fits-array.Post,
   is-leaf-reads.Asked,
   is-leaf-reads.Learnt,
   fits-leaf-reads.Asked,
   fits-leaf-reads.Learnt,
-  fits-array-below t,
-  fits-array.Post,
+  symbol-at-reads.Asked,
+  symbol-at-reads.Learnt,
   both-reads.Asked,
   both-reads.Learnt,
   fits-each-below t,
   fits-each.Post,
 ) (fits-base-at t) fits-base.Post
 fits-base-add-fits-array t c =
-    let at-if2 = c .before in
-    let e = at-if2 .before .before .before in
-    let s = e .before .before .before .before .before in
+    let at-if1 = c .before in
+    let s = at-if1 .before .before .before .before .before in
     let a = s .args in
     let text = a .vtext .now in
     let table = a .vtable .now in
     let n = a .vn in
-    let x = e .symbol-at in
-    let h = stands text table n (a .v) (sym (at-if2 .if2 .taken) ∙ x .ensures) (omega arith) in
+    let sees = s .pre .1 .1 .1 in
+    let h = stands text table n (a .v) (sym (at-if1 .if1 .taken) ∙ sees) (omega arith) in
     search needs
 
 fits-base-sub-fits-array : (t : ℕ) → fits-base-lts.Need-sub-fits-array (
-  symbol-at-reads.Asked,
-  symbol-at-reads.Learnt,
+  fits-array-below t,
+  fits-array.Post,
   is-leaf-reads.Asked,
   is-leaf-reads.Learnt,
   fits-leaf-reads.Asked,
   fits-leaf-reads.Learnt,
-  fits-array-below t,
-  fits-array.Post,
+  symbol-at-reads.Asked,
+  symbol-at-reads.Learnt,
   both-reads.Asked,
   both-reads.Learnt,
   fits-each-below t,
@@ -469,49 +526,118 @@ fits-base-sub-fits-array : (t : ℕ) → fits-base-lts.Need-sub-fits-array (
 fits-base-sub-fits-array t c = search needs
 
 fits-base-fits-array-requires : (t : ℕ) → fits-base-lts.Need-fits-array-requires (
-  symbol-at-reads.Asked,
-  symbol-at-reads.Learnt,
+  fits-array-below t,
+  fits-array.Post,
   is-leaf-reads.Asked,
   is-leaf-reads.Learnt,
   fits-leaf-reads.Asked,
   fits-leaf-reads.Learnt,
-  fits-array-below t,
-  fits-array.Post,
+  symbol-at-reads.Asked,
+  symbol-at-reads.Learnt,
   both-reads.Asked,
   both-reads.Learnt,
   fits-each-below t,
   fits-each.Post,
 ) (fits-base-at t) fits-base.Post
 fits-base-fits-array-requires t c κs =
-    let at-if2 = c .before in
-    let e = at-if2 .before .before .before in
-    let s = e .before .before .before .before .before in
+    let at-if1 = c .before in
+    let s = at-if1 .before .before .before .before .before in
     let a = s .args in
     let text = a .vtext .now in
     let table = a .vtable .now in
     let n = a .vn in
-    let x = e .symbol-at in
-    let h = stands text table n (a .v) (sym (at-if2 .if2 .taken) ∙ x .ensures) (omega arith) in
-    (omega (arith, h, s .pre .0), (s .pre .1 .0, s .pre .1 .1))
+    let sees = s .pre .1 .1 .1 in
+    let h = stands text table n (a .v) (sym (at-if1 .if1 .taken) ∙ sees) (omega arith) in
+    (omega (arith, h, s .pre .0), (s .pre .1 .0, s .pre .1 .1 .0))
 
-fits-base-returns-3 : (t : ℕ) → fits-base-lts.Need-returns-3 (
-  symbol-at-reads.Asked,
-  symbol-at-reads.Learnt,
+fits-base-returns-2 : (t : ℕ) → fits-base-lts.Need-returns-2 (
+  fits-array-below t,
+  fits-array.Post,
   is-leaf-reads.Asked,
   is-leaf-reads.Learnt,
   fits-leaf-reads.Asked,
   fits-leaf-reads.Learnt,
+  symbol-at-reads.Asked,
+  symbol-at-reads.Learnt,
+  both-reads.Asked,
+  both-reads.Learnt,
+  fits-each-below t,
+  fits-each.Post,
+) (fits-base-at t) fits-base.Post
+fits-base-returns-2 t c =
+    let at-if1 = c .before .before in
+    let s = at-if1 .before .before .before .before .before in
+    let a = s .args in
+    let text = a .vtext .now in
+    let table = a .vtable .now in
+    let n = a .vn in
+    let ttext = a .ttext .now in
+    let ttable = a .ttable .now in
+    let tn = a .tn in
+    let sees = s .pre .1 .1 .1 in
+    let r = c .fits-array in (
+      wider n (a .v) (a .v + 1) (r .result) (omega arith) (r .ensures .0),
+      array-deep text table n (a .v) ttext ttable tn (a .t) (a .k) (a .s) sees (r .result) (at-if1 .if1 .taken) (c .before .if2 .left) (r .ensures .1),
+    )
+
+fits-base-is-leaf-requires : (t : ℕ) → fits-base-lts.Need-is-leaf-requires (
   fits-array-below t,
   fits-array.Post,
+  is-leaf-reads.Asked,
+  is-leaf-reads.Learnt,
+  fits-leaf-reads.Asked,
+  fits-leaf-reads.Learnt,
+  symbol-at-reads.Asked,
+  symbol-at-reads.Learnt,
+  both-reads.Asked,
+  both-reads.Learnt,
+  fits-each-below t,
+  fits-each.Post,
+) (fits-base-at t) fits-base.Post
+fits-base-is-leaf-requires t c κs = search needs
+
+fits-base-fits-leaf-requires : (t : ℕ) → fits-base-lts.Need-fits-leaf-requires (
+  fits-array-below t,
+  fits-array.Post,
+  is-leaf-reads.Asked,
+  is-leaf-reads.Learnt,
+  fits-leaf-reads.Asked,
+  fits-leaf-reads.Learnt,
+  symbol-at-reads.Asked,
+  symbol-at-reads.Learnt,
+  both-reads.Asked,
+  both-reads.Learnt,
+  fits-each-below t,
+  fits-each.Post,
+) (fits-base-at t) fits-base.Post
+fits-base-fits-leaf-requires t c κs =
+    let at-if1 = c .before .before in
+    let s = at-if1 .before .before .before .before .before in
+    let a = s .args in
+    let text = a .vtext .now in
+    let table = a .vtable .now in
+    let n = a .vn in
+    let leaf = sym (c .before .is-leaf .ensures) ∙ c .if3 .taken in
+    (s .pre .1 .0, stands-by text table n (a .v) isLeafSymbol refl (s .pre .1 .1 .1) leaf)
+
+fits-base-returns-3 : (t : ℕ) → fits-base-lts.Need-returns-3 (
+  fits-array-below t,
+  fits-array.Post,
+  is-leaf-reads.Asked,
+  is-leaf-reads.Learnt,
+  fits-leaf-reads.Asked,
+  fits-leaf-reads.Learnt,
+  symbol-at-reads.Asked,
+  symbol-at-reads.Learnt,
   both-reads.Asked,
   both-reads.Learnt,
   fits-each-below t,
   fits-each.Post,
 ) (fits-base-at t) fits-base.Post
 fits-base-returns-3 t c =
-    let at-if2 = c .before .before in
-    let e = at-if2 .before .before .before in
-    let s = e .before .before .before .before .before in
+    let at-leaf = c .before .before in
+    let known = at-leaf .before .before .before .before .before in
+    let s = known .before in
     let a = s .args in
     let text = a .vtext .now in
     let table = a .vtable .now in
@@ -519,31 +645,32 @@ fits-base-returns-3 t c =
     let ttext = a .ttext .now in
     let ttable = a .ttable .now in
     let tn = a .tn in
-    let x = e .symbol-at in
-    let r = c .fits-array in (
-      wider n (a .v) (a .v + 1) (r .result) (omega arith) (r .ensures .0),
-      array-deep text table n (a .v) ttext ttable tn (a .t) (a .k) (x .result) (x .ensures) (r .result) (at-if2 .if2 .taken) (c .before .if3 .left)
-          (r .ensures .1),
+    let sees = s .pre .1 .1 .1 in
+    let leaf = sym (at-leaf .is-leaf .ensures) ∙ c .before .if3 .taken in
+    let h = stands-by text table n (a .v) isLeafSymbol refl sees leaf in
+    let bytes : (j : ℕ) → getD (a .vtext .now) j 0 < 256 = λ j. omega (arith, known .shared-slice-known .given j) in
+    let r = c .fits-leaf in (
+      leaf-within text table n (a .v) ttext ttable tn (a .t) (a .k) (a .s) sees (s .pre .1 .0) bytes h leaf (a .kinds) (r .result) (r .ensures),
+      leaf-answer text table n (a .v) ttext ttable tn (a .t) (a .k) (a .s) sees (s .pre .1 .0) bytes h leaf (a .kinds) (r .result) (r .ensures),
     )
 
 fits-base-returns-4 : (t : ℕ) → fits-base-lts.Need-returns-4 (
-  symbol-at-reads.Asked,
-  symbol-at-reads.Learnt,
+  fits-array-below t,
+  fits-array.Post,
   is-leaf-reads.Asked,
   is-leaf-reads.Learnt,
   fits-leaf-reads.Asked,
   fits-leaf-reads.Learnt,
-  fits-array-below t,
-  fits-array.Post,
+  symbol-at-reads.Asked,
+  symbol-at-reads.Learnt,
   both-reads.Asked,
   both-reads.Learnt,
   fits-each-below t,
   fits-each.Post,
 ) (fits-base-at t) fits-base.Post
 fits-base-returns-4 t c =
-    let at-if2 = c .before in
-    let e = at-if2 .before .before .before in
-    let s = e .before .before .before .before .before in
+    let at-if1 = c .before .before .before in
+    let s = at-if1 .before .before .before .before .before in
     let a = s .args in
     let text = a .vtext .now in
     let table = a .vtable .now in
@@ -551,37 +678,37 @@ fits-base-returns-4 t c =
     let ttext = a .ttext .now in
     let ttable = a .ttable .now in
     let tn = a .tn in
-    let x = e .symbol-at in (
+    let sees = s .pre .1 .1 .1 in (
       none-within n (a .v),
-      never text table n (a .v) ttext ttable tn (a .t) (a .k) (x .result) (x .ensures)
-          (flat-deep text table n (a .v) ttext ttable tn (a .t) (a .k) (x .result) (x .ensures) (at-if2 .if2 .left) (c .if4 .taken)),
+      never text table n (a .v) ttext ttable tn (a .t) (a .k) (a .s) sees
+          (flat-deep text table n (a .v) ttext ttable tn (a .t) (a .k) (a .s) sees (at-if1 .if1 .left) (c .if4 .taken)),
     )
 
-fits-base-symbol-at-requires-2 : (t : ℕ) → fits-base-lts.Need-symbol-at-requires-2 (
-  symbol-at-reads.Asked,
-  symbol-at-reads.Learnt,
+fits-base-symbol-at-requires : (t : ℕ) → fits-base-lts.Need-symbol-at-requires (
+  fits-array-below t,
+  fits-array.Post,
   is-leaf-reads.Asked,
   is-leaf-reads.Learnt,
   fits-leaf-reads.Asked,
   fits-leaf-reads.Learnt,
-  fits-array-below t,
-  fits-array.Post,
+  symbol-at-reads.Asked,
+  symbol-at-reads.Learnt,
   both-reads.Asked,
   both-reads.Learnt,
   fits-each-below t,
   fits-each.Post,
 ) (fits-base-at t) fits-base.Post
-fits-base-symbol-at-requires-2 t c κs = search needs
+fits-base-symbol-at-requires t c κs = search needs
 
 fits-base-both-requires : (t : ℕ) → fits-base-lts.Need-both-requires (
-  symbol-at-reads.Asked,
-  symbol-at-reads.Learnt,
+  fits-array-below t,
+  fits-array.Post,
   is-leaf-reads.Asked,
   is-leaf-reads.Learnt,
   fits-leaf-reads.Asked,
   fits-leaf-reads.Learnt,
-  fits-array-below t,
-  fits-array.Post,
+  symbol-at-reads.Asked,
+  symbol-at-reads.Learnt,
   both-reads.Asked,
   both-reads.Learnt,
   fits-each-below t,
@@ -590,14 +717,14 @@ fits-base-both-requires : (t : ℕ) → fits-base-lts.Need-both-requires (
 fits-base-both-requires t c κs = search needs
 
 fits-base-returns-5 : (t : ℕ) → fits-base-lts.Need-returns-5 (
-  symbol-at-reads.Asked,
-  symbol-at-reads.Learnt,
+  fits-array-below t,
+  fits-array.Post,
   is-leaf-reads.Asked,
   is-leaf-reads.Learnt,
   fits-leaf-reads.Asked,
   fits-leaf-reads.Learnt,
-  fits-array-below t,
-  fits-array.Post,
+  symbol-at-reads.Asked,
+  symbol-at-reads.Learnt,
   both-reads.Asked,
   both-reads.Learnt,
   fits-each-below t,
@@ -605,11 +732,11 @@ fits-base-returns-5 : (t : ℕ) → fits-base-lts.Need-returns-5 (
 ) (fits-base-at t) fits-base.Post
 fits-base-returns-5 t c =
     let at-both = c .before in
-    let o = at-both .before .symbol-at2 in
+    let o = at-both .before .symbol-at in
     let at-if4 = at-both .before .before in
-    let at-if2 = at-if4 .before in
-    let e = at-if2 .before .before .before in
-    let s = e .before .before .before .before .before in
+    let at-leaf = at-if4 .before .before in
+    let at-if1 = at-leaf .before in
+    let s = at-if1 .before .before .before .before .before in
     let a = s .args in
     let text = a .vtext .now in
     let table = a .vtable .now in
@@ -617,24 +744,23 @@ fits-base-returns-5 t c =
     let ttext = a .ttext .now in
     let ttable = a .ttable .now in
     let tn = a .tn in
-    let x = e .symbol-at in
-    let nested = sym (at-if2 .before .before .is-leaf .ensures) ∙ at-if2 .before .if1 .left in
+    let sees = s .pre .1 .1 .1 in
+    let nested = sym (at-leaf .is-leaf .ensures) ∙ at-if4 .before .if3 .left in
     let d = at-both .both .ensures .1 (not-true _ (c .if5 .taken)) in (
       none-within n (a .v),
-      never text table n (a .v) ttext ttable tn (a .t) (a .k) (x .result) (x .ensures)
-          (tuple-word text table n (a .v) ttext ttable tn (a .t) (a .k) (x .result) (x .ensures) (at-if4 .if4 .left) nested (at-if2 .if2 .left) (o .result)
-          (o .ensures) d),
+      never text table n (a .v) ttext ttable tn (a .t) (a .k) (a .s) sees
+          (tuple-word text table n (a .v) ttext ttable tn (a .t) (a .k) (a .s) sees (at-if4 .if4 .left) nested (at-if1 .if1 .left) (o .result) (o .ensures) d),
     )
 
 fits-base-add-fits-each : (t : ℕ) → fits-base-lts.Need-add-fits-each (
-  symbol-at-reads.Asked,
-  symbol-at-reads.Learnt,
+  fits-array-below t,
+  fits-array.Post,
   is-leaf-reads.Asked,
   is-leaf-reads.Learnt,
   fits-leaf-reads.Asked,
   fits-leaf-reads.Learnt,
-  fits-array-below t,
-  fits-array.Post,
+  symbol-at-reads.Asked,
+  symbol-at-reads.Learnt,
   both-reads.Asked,
   both-reads.Learnt,
   fits-each-below t,
@@ -642,30 +768,29 @@ fits-base-add-fits-each : (t : ℕ) → fits-base-lts.Need-add-fits-each (
 ) (fits-base-at t) fits-base.Post
 fits-base-add-fits-each t c =
     let at-both = c .before in
-    let o = at-both .before .symbol-at2 in
+    let o = at-both .before .symbol-at in
     let at-if4 = at-both .before .before in
-    let at-if2 = at-if4 .before in
-    let e = at-if2 .before .before .before in
-    let s = e .before .before .before .before .before in
+    let at-leaf = at-if4 .before .before in
+    let at-if1 = at-leaf .before in
+    let s = at-if1 .before .before .before .before .before in
     let a = s .args in
     let text = a .vtext .now in
     let table = a .vtable .now in
     let n = a .vn in
-    let x = e .symbol-at in
     let y = at-both .both .ensures .0 (not-false _ (c .if5 .left)) in
-    let h = stands text table n (a .v) (sym (y .0) ∙ x .ensures) (omega arith) in
+    let h = stands text table n (a .v) (sym (y .0) ∙ s .pre .1 .1 .1) (omega arith) in
     let f = s .fits in
     search needs
 
 fits-base-add-fits-each-2 : (t : ℕ) → fits-base-lts.Need-add-fits-each-2 (
-  symbol-at-reads.Asked,
-  symbol-at-reads.Learnt,
+  fits-array-below t,
+  fits-array.Post,
   is-leaf-reads.Asked,
   is-leaf-reads.Learnt,
   fits-leaf-reads.Asked,
   fits-leaf-reads.Learnt,
-  fits-array-below t,
-  fits-array.Post,
+  symbol-at-reads.Asked,
+  symbol-at-reads.Learnt,
   both-reads.Asked,
   both-reads.Learnt,
   fits-each-below t,
@@ -673,30 +798,29 @@ fits-base-add-fits-each-2 : (t : ℕ) → fits-base-lts.Need-add-fits-each-2 (
 ) (fits-base-at t) fits-base.Post
 fits-base-add-fits-each-2 t c =
     let at-both = c .before in
-    let o = at-both .before .symbol-at2 in
+    let o = at-both .before .symbol-at in
     let at-if4 = at-both .before .before in
-    let at-if2 = at-if4 .before in
-    let e = at-if2 .before .before .before in
-    let s = e .before .before .before .before .before in
+    let at-leaf = at-if4 .before .before in
+    let at-if1 = at-leaf .before in
+    let s = at-if1 .before .before .before .before .before in
     let a = s .args in
     let ttext = a .ttext .now in
     let ttable = a .ttable .now in
     let tn = a .tn in
-    let x = e .symbol-at in
     let y = at-both .both .ensures .0 (not-false _ (c .if5 .left)) in
     let h' = stands ttext ttable tn (a .t) (sym (y .1) ∙ o .ensures) (omega arith) in
     let f = s .fits in
     search needs
 
 fits-base-fits-each-requires : (t : ℕ) → fits-base-lts.Need-fits-each-requires (
-  symbol-at-reads.Asked,
-  symbol-at-reads.Learnt,
+  fits-array-below t,
+  fits-array.Post,
   is-leaf-reads.Asked,
   is-leaf-reads.Learnt,
   fits-leaf-reads.Asked,
   fits-leaf-reads.Learnt,
-  fits-array-below t,
-  fits-array.Post,
+  symbol-at-reads.Asked,
+  symbol-at-reads.Learnt,
   both-reads.Asked,
   both-reads.Learnt,
   fits-each-below t,
@@ -704,11 +828,11 @@ fits-base-fits-each-requires : (t : ℕ) → fits-base-lts.Need-fits-each-requir
 ) (fits-base-at t) fits-base.Post
 fits-base-fits-each-requires t c κs =
     let at-both = c .before in
-    let o = at-both .before .symbol-at2 in
+    let o = at-both .before .symbol-at in
     let at-if4 = at-both .before .before in
-    let at-if2 = at-if4 .before in
-    let e = at-if2 .before .before .before in
-    let s = e .before .before .before .before .before in
+    let at-leaf = at-if4 .before .before in
+    let at-if1 = at-leaf .before in
+    let s = at-if1 .before .before .before .before .before in
     let a = s .args in
     let text = a .vtext .now in
     let table = a .vtable .now in
@@ -716,21 +840,20 @@ fits-base-fits-each-requires t c κs =
     let ttext = a .ttext .now in
     let ttable = a .ttable .now in
     let tn = a .tn in
-    let x = e .symbol-at in
     let y = at-both .both .ensures .0 (not-false _ (c .if5 .left)) in
-    let h = stands text table n (a .v) (sym (y .0) ∙ x .ensures) (omega arith) in
+    let h = stands text table n (a .v) (sym (y .0) ∙ s .pre .1 .1 .1) (omega arith) in
     let h' = stands ttext ttable tn (a .t) (sym (y .1) ∙ o .ensures) (omega arith) in
-    (omega (arith, h, s .pre .0), (s .pre .1 .0, (s .pre .1 .1, (omega arith, λ z. omega (arith, z), omega (arith, h'), omega arith))))
+    (omega (arith, h, s .pre .0), (s .pre .1 .0, (s .pre .1 .1 .0, (omega arith, λ z. omega (arith, z), omega (arith, h'), omega arith))))
 
 fits-base-returns-6 : (t : ℕ) → fits-base-lts.Need-returns-6 (
-  symbol-at-reads.Asked,
-  symbol-at-reads.Learnt,
+  fits-array-below t,
+  fits-array.Post,
   is-leaf-reads.Asked,
   is-leaf-reads.Learnt,
   fits-leaf-reads.Asked,
   fits-leaf-reads.Learnt,
-  fits-array-below t,
-  fits-array.Post,
+  symbol-at-reads.Asked,
+  symbol-at-reads.Learnt,
   both-reads.Asked,
   both-reads.Learnt,
   fits-each-below t,
@@ -738,11 +861,11 @@ fits-base-returns-6 : (t : ℕ) → fits-base-lts.Need-returns-6 (
 ) (fits-base-at t) fits-base.Post
 fits-base-returns-6 t c =
     let at-both = c .before .before in
-    let o = at-both .before .symbol-at2 in
+    let o = at-both .before .symbol-at in
     let at-if4 = at-both .before .before in
-    let at-if2 = at-if4 .before in
-    let e = at-if2 .before .before .before in
-    let s = e .before .before .before .before .before in
+    let at-leaf = at-if4 .before .before in
+    let at-if1 = at-leaf .before in
+    let s = at-if1 .before .before .before .before .before in
     let a = s .args in
     let text = a .vtext .now in
     let table = a .vtable .now in
@@ -750,12 +873,12 @@ fits-base-returns-6 t c =
     let ttext = a .ttext .now in
     let ttable = a .ttable .now in
     let tn = a .tn in
-    let x = e .symbol-at in
-    let nested = sym (at-if2 .before .before .is-leaf .ensures) ∙ at-if2 .before .if1 .left in
+    let sees = s .pre .1 .1 .1 in
+    let nested = sym (at-leaf .is-leaf .ensures) ∙ at-if4 .before .if3 .left in
     let y = at-both .both .ensures .0 (not-false _ (c .before .if5 .left)) in
     let r = c .fits-each in (
       wider n (a .v) (a .v + 1) (r .result) (omega arith) (r .ensures .0),
-      tuple-each text table n (a .v) ttext ttable tn (a .t) (a .k) (x .result) (x .ensures) (at-if4 .if4 .left) nested (at-if2 .if2 .left) (o .result)
+      tuple-each text table n (a .v) ttext ttable tn (a .t) (a .k) (a .s) sees (at-if4 .if4 .left) nested (at-if1 .if1 .left) (o .result)
           (o .ensures) (r .result) (y .1) (r .ensures .1),
     )
 
@@ -1190,7 +1313,7 @@ fits-one-fits-base-requires : (t : ℕ) → fits-one-lts.Need-fits-base-requires
 fits-one-fits-base-requires t c κs =
     let e = c .before .before in
     let s = e .before .before .before .before .before in
-    (omega (arith, s .pre .0), (s .pre .1 .0, s .pre .1 .1))
+    (omega (arith, s .pre .0), (s .pre .1 .0, (s .pre .1 .1, e .symbol-at .ensures)))
 
 fits-one-returns-2 : (t : ℕ) → fits-one-lts.Need-returns-2 (
   symbol-at-reads.Asked,
@@ -1209,8 +1332,12 @@ pub +fits-array+fits-base+fits-each+fits-one-spec : {M : Type 1} → statement M
     close μ-fits-array μ-fits-base μ-fits-each μ-fits-one (λ t. fits-array-lts.spec (
       symbol-at-reads.Asked,
       symbol-at-reads.Learnt,
-      fits-one-below t,
-      fits-one.Post,
+      is-leaf-reads.Asked,
+      is-leaf-reads.Learnt,
+      fits-leaf-reads.Asked,
+      fits-leaf-reads.Learnt,
+      fits-base-below t,
+      fits-base.Post,
     )
     (fits-array-at t)
     fits-array.Post
@@ -1220,9 +1347,12 @@ pub +fits-array+fits-base+fits-each+fits-one-spec : {M : Type 1} → statement M
     (fits-array-add-result t)
     (fits-array-returns t)
     (fits-array-loop-holds t)
-    (fits-array-fits-one-requires t)
-    (fits-array-returns-2 t)
     (fits-array-symbol-at-requires-2 t)
+    (fits-array-is-leaf-requires t)
+    (fits-array-fits-leaf-requires t)
+    (fits-array-fits-base-requires t)
+    (fits-array-returns-2 t)
+    (fits-array-symbol-at-requires-3 t)
     (fits-array-add-result-2 t)
     (fits-array-returns-3 t)
     (fits-array-returns-4 t)
@@ -1230,14 +1360,14 @@ pub +fits-array+fits-base+fits-each+fits-one-spec : {M : Type 1} → statement M
     (fits-array-loop-less t)
     (fits-array-loop-again t))
     (λ t. fits-base-lts.spec (
-      symbol-at-reads.Asked,
-      symbol-at-reads.Learnt,
+      fits-array-below t,
+      fits-array.Post,
       is-leaf-reads.Asked,
       is-leaf-reads.Learnt,
       fits-leaf-reads.Asked,
       fits-leaf-reads.Learnt,
-      fits-array-below t,
-      fits-array.Post,
+      symbol-at-reads.Asked,
+      symbol-at-reads.Learnt,
       both-reads.Asked,
       both-reads.Learnt,
       fits-each-below t,
@@ -1245,17 +1375,16 @@ pub +fits-array+fits-base+fits-each+fits-one-spec : {M : Type 1} → statement M
     )
     (fits-base-at t)
     fits-base.Post
-    (fits-base-symbol-at-requires t)
-    (fits-base-is-leaf-requires t)
-    (fits-base-fits-leaf-requires t)
     (fits-base-returns t)
-    (fits-base-returns-2 t)
     (fits-base-add-fits-array t)
     (fits-base-sub-fits-array t)
     (fits-base-fits-array-requires t)
+    (fits-base-returns-2 t)
+    (fits-base-is-leaf-requires t)
+    (fits-base-fits-leaf-requires t)
     (fits-base-returns-3 t)
     (fits-base-returns-4 t)
-    (fits-base-symbol-at-requires-2 t)
+    (fits-base-symbol-at-requires t)
     (fits-base-both-requires t)
     (fits-base-returns-5 t)
     (fits-base-add-fits-each t)
