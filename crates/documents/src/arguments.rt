@@ -65,7 +65,14 @@ fn is_spelt(ltext: &[u8], ltable: &[u32], ln: usize, words: &[u32], j: usize, w:
 }
 
 // The number of the first parameter of the operation that is spelt w, or their count.
-pub fn search(ltext: &[u8], ltable: &[u32], ln: usize, words: &[u32], o: Operation, w: &[u8]) -> usize
+pub fn search(
+    ltext: &[u8],
+    ltable: &[u32],
+    ln: usize,
+    words: &[u32],
+    o: Operation,
+    w: &[u8],
+) -> usize
     requires { ⌜ Holds (now ltext) (now ltable) ln ⌝ }
     requires { ⌜ ParamsRecorded (now words) o ⌝ }
     requires { ⌜ NamesBelow (now words) ln o ⌝ }

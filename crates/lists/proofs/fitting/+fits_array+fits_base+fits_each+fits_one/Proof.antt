@@ -253,12 +253,12 @@ fits-array-answered t j =
     let tn = a .tn in
     let bytes : (b : ℕ) → getD (a .vtext .now) b 0 < 256 = λ b. omega (arith, known .shared-slice-known .given b) in
     ⊎-elim (λ w.
-      let leaf = sym (at-leaf .is-leaf .ensures) ∙ w .0 .taken in
-      let h = stands-by text table n i isLeafSymbol refl (x .ensures) leaf in
-      let e = w .2 ∙ w .1 .ensures in (
-        leaf-within text table n i ttext ttable tn (a .t) (a .k) (x .result) (x .ensures) (s .pre .1 .0) bytes h leaf (a .kinds) (j .if2 .next) e,
-        leaf-answer text table n i ttext ttable tn (a .t) (a .k) (x .result) (x .ensures) (s .pre .1 .0) bytes h leaf (a .kinds) (j .if2 .next) e,
-      ))
+    let leaf = sym (at-leaf .is-leaf .ensures) ∙ w .0 .taken in
+    let h = stands-by text table n i isLeafSymbol refl (x .ensures) leaf in
+    let e = w .2 ∙ w .1 .ensures in (
+      leaf-within text table n i ttext ttable tn (a .t) (a .k) (x .result) (x .ensures) (s .pre .1 .0) bytes h leaf (a .kinds) (j .if2 .next) e,
+      leaf-answer text table n i ttext ttable tn (a .t) (a .k) (x .result) (x .ensures) (s .pre .1 .0) bytes h leaf (a .kinds) (j .if2 .next) e,
+    ))
     (λ w. rw (w .2) (w .1 .ensures .0, w .1 .ensures .1))
     (j .if2 .came)
 
