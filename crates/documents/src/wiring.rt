@@ -13,7 +13,7 @@ use lists::best::Best;
 use lists::word::start_at;
 use syntax::symbol::symbol_at;
 ghost use mathlib.Core.Path.{_≡_};
-ghost use mathlib.Core.Bool.{cond};
+ghost use mathlib.Core.Bool.{cond, true};
 ghost use mathlib.Core.List.{_∷_, []};
 ghost use Prim.Native.Nat.{suc, _+_, _-_, _<_, _≤_};
 ghost use lib.Dec.{eqb, ltb};
@@ -190,7 +190,7 @@ fn wired(a: usize, k: usize) -> usize
     a - 1
 }
 
-// The use at place i of the arguments of call k, if there is one: beyond the size, or not assigned by an earlier call. Its wire is stored.
+// The use at place i of the arguments of call k: beyond the size, or not assigned by an earlier call. Its wire is stored.
 fn used_at(
     text: &[u8],
     table: &[u32],
@@ -204,6 +204,7 @@ fn used_at(
 ) -> Tally
     requires { ⌜ Holds (now text) (now table) n ⌝ }
     requires { ⌜ (to ≤ n) × (i < to) × (i < maxTokens) × (k ≤ maxTokens) × (tally .count ≤ i) ⌝ }
+    requires { ⌜ isUse (tokenAt (now text) (now table) i) (toks (now text) (now table) to (i + 1)) ≡ true ⌝ }
     requires { ⌜ (length (now text) ≤ maxText) × (recordsWords ≤ length (now records)) ⌝ }
     requires { ⌜ Walkable (now index) n n ⌝ }
     ensures { λ r. ⌜ (tally .count ≤ r .count) × (r .count ≤ suc (tally .count)) ⌝ }
@@ -211,9 +212,6 @@ fn used_at(
     ensures { λ r. ⌜ Uses (now (text .entry)) (now (table .entry)) (now (index .entry)) (now (records .entry)) (now (records .exit)) k
         (usesHere (tokenAt (now (text .entry)) (now (table .entry)) i) (toks (now (text .entry)) (now (table .entry)) to (i + 1))) tally r ⌝ }
 {
-    if !is_use(text, table, n, to, i) {
-        return tally;
-    }
     let place = start_at(table, i);
     let a = look_up(
         text,
@@ -261,7 +259,9 @@ pub fn used(
     let mut sum = tally;
     let mut i = from;
     while i < to {
-        sum = used_at(text, table, n, to, i, k, index, &mut *records, sum);
+        if is_use(text, table, n, to, i) {
+            sum = used_at(text, table, n, to, i, k, index, &mut *records, sum);
+        }
         i += 1;
     }
     sum

@@ -1,40 +1,18 @@
-use mathlib.Core.Path.{refl, sym, ap, subst, _∙_}
+use mathlib.Core.Path.{ap, subst, _∙_}
 use mathlib.Core.Bool.{Bool, cond}
-use mathlib.Core.List.{List, _++_}
-use Prim.Native.Nat.{ℕ, suc, _+_}
+use mathlib.Core.List.{List}
+use Prim.Native.Nat.{ℕ, _+_}
 use native.Mathlib.Omega.{arith}
 use lib.ListN.{length}
-use borrow.Author.Tests.{not-true, not-false}
 use Rattle.syntax.specs.Table.{tokenAt, toks}
 use Rattle.index.specs.Mapped.{LooksUp}
-use Rattle.lists.specs.Names.{allAssigned}
 use Rattle.documents.specs.Code as Code
-use Rattle.documents.specs.Walks.{consuming}
-use Rattle.documents.specs.Naming.{numbered, assigners}
-use Rattle.documents.proofs.Walking.{here-some, here-none}
-use Rattle.documents.proofs.NameTurns.{turn-none, used-name, no-wires}
+use Rattle.documents.proofs.Walking.{here-some}
+use Rattle.documents.proofs.NameTurns.{used-name}
 use Rattle.documents.proofs.Recording.{wire-length}
 use borrow.Author.Needs.{needs}
 use Rattle.documents.proofs.wiring.used_at.Statement.{statement}
 use Rattle.documents.proofs.wiring.used_at.Tie as tie
-
-is-use-requires : tie.Need-is-use-requires
-is-use-requires c κs = search needs
-
-returns : tie.Need-returns
-returns c =
-    let tested = c .before in
-    let s = tested .before .before .before .before .before in
-    let a = s .args in
-    let none = here-none (tokenAt (a .text .now) (a .table .now) (a .i)) (toks (a .text .now) (a .table .now) (a .to) (a .i + 1))
-    (sym (tested .is-use .ensures) ∙ not-true _ (c .if1 .taken)) in (
-      (omega arith, omega arith),
-      (
-        refl,
-        λ j es ds ls ss e m k. turn-none (consuming (allAssigned ds)) ss (a .tally) k none
-            (no-wires (assigners ds ++ numbered (suc (a .k)) ls) (a .k) (a .records .now) (a .tally .count) none),
-      ),
-    )
 
 start-at-requires : tie.Need-start-at-requires
 start-at-requires c κs = search needs
@@ -51,10 +29,10 @@ wired-requires c κs = search needs
 wire-requires : tie.Need-wire-requires
 wire-requires c κs =
     let started = c .before .before .before .before in
-    let s = started .before .before .before .before .before .before .before in
+    let s = started .before .before .before .before .before in
     let w = s .pre .0 .within (s .args .i) (omega (arith, s .pre .1 .0 .0, s .pre .1 .0 .1)) in (
-      s .pre .1 .1 .0 .1,
-      (omega (arith, started .start-at .ensures, w .0, w .1, s .pre .1 .1 .0 .0), omega (arith, c .wired .ensures .1, s .pre .1 .0 .3)),
+      s .pre .1 .1 .1 .0 .1,
+      (omega (arith, started .start-at .ensures, w .0, w .1, s .pre .1 .1 .1 .0 .0), omega (arith, c .wired .ensures .1, s .pre .1 .0 .3)),
     )
 
 is-unwired-requires : tie.Need-is-unwired-requires
@@ -68,15 +46,15 @@ code-if-requires-2 c κs = search needs
 
 next-requires : tie.Need-next-requires
 next-requires c κs =
-    let s = c .before .before .before .before .before .before .before .before .before .before .before .before .before .before .before .before .before .before in
+    let s = c .before .before .before .before .before .before .before .before .before .before .before .before .before .before .before .before in
     omega (arith, s .pre .1 .0 .2, s .pre .1 .0 .4)
 
 same-length : tie.Need-same-length
 same-length c = search needs
 
-returns-2 : tie.Need-returns-2
+returns : tie.Need-returns
 unfolding tokenAt
-returns-2 c =
+returns c =
     let coded = c .before in
     let unwired = coded .before .before in
     let tested = unwired .before in
@@ -85,11 +63,10 @@ returns-2 c =
     let sought = wired .before .before in
     let read = sought .before in
     let started = read .before in
-    let is = started .before .before in
-    let s = is .before .before .before .before .before in
+    let s = started .before .before .before .before .before in
     let a = s .args in
     let one = here-some (tokenAt (a .text .now) (a .table .now) (a .i)) (toks (a .text .now) (a .table .now) (a .to) (a .i + 1))
-    (sym (is .is-use .ensures) ∙ not-false _ (started .before .if1 .left)) in (
+    (s .pre .1 .1 .0) in (
       (omega (arith, c .next .ensures .1), omega (arith, c .next .ensures .1)),
       (
         ap (λ (l : List ℕ). length l) (stored .wire .ensures) ∙ wire-length (a .records .now) (a .tally .count) _,
@@ -107,8 +84,6 @@ pub used-at-spec : {M : Type 1} → statement M
 used-at-spec =
     tie.close
     (tie.spec
-    is-use-requires
-    returns
     start-at-requires
     bytes-at-requires
     look-up-requires
@@ -119,4 +94,4 @@ used-at-spec =
     code-if-requires-2
     next-requires
     same-length
-    returns-2)
+    returns)
