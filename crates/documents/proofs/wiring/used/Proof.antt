@@ -69,9 +69,13 @@ one j =
     let a = e .before .before .before .before .before .before .before .args in
     ⊎-elim (λ w. rw (w .5, w .6) (w .2 .ensures .0, w .2 .ensures .1 .0, w .2 .ensures .1 .1)) (λ w.
     let none = here-none (tokenAt (a .text .now) (a .table .now) (l .i)) (toks (a .text .now) (a .table .now) (a .to) (l .i + 1))
-        (sym (e .is-use .ensures) ∙ w .0 .left) in
-    rw (w .1, w .2) ((omega arith, omega arith), refl, λ b es ds ls ss h m k. turn-none (consuming (allAssigned ds)) ss (l .sum) k none
-        (no-wires (assigners ds ++ numbered (suc (a .k)) ls) (a .k) (l .records) (l .sum .count) none)))
+    (sym (e .is-use .ensures) ∙ w .0 .left) in
+    rw (w .1, w .2) (
+      (omega arith, omega arith),
+      refl,
+      λ b es ds ls ss h m k. turn-none (consuming (allAssigned ds)) ss (l .sum) k none
+          (no-wires (assigners ds ++ numbered (suc (a .k)) ls) (a .k) (l .records) (l .sum .count) none),
+    ))
     (j .if1 .came)
 
 add-i : tie.Need-add-i Inv-loop μ-loop
