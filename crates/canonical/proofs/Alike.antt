@@ -10,10 +10,10 @@ use Rattle.syntax.specs.Tree.{Header, Call, Document}
 use Rattle.syntax.specs.Grammar.{IsList}
 use Rattle.lists.specs.Names.{assigned, used, allAssigned, allUsed}
 use Rattle.lists.specs.Reading.{resultType}
-use Rattle.canonical.specs.Plan.{PlanCall, Plan, spellings, planOf}
+use Rattle.writing.specs.Plan.{PlanCall, Plan, spellings, planOf}
 use Rattle.canonical.proofs.Shape.{CanonCall, CanonCalls, no-calls, a-call, CanonDocument}
-use Rattle.canonical.proofs.Found.{find-same}
-use Rattle.canonical.proofs.Planned.{Planned, AllPlanned, none-planned, more-planned, planned-document}
+use Rattle.writing.proofs.Found.{find-same}
+use Rattle.writing.proofs.Planned.{Planned, AllPlanned, none-planned, more-planned, planned-document}
 use Rattle.canonical.proofs.Spelt.{append-same, Within, equal-within, append-within}
 use Rattle.canonical.proofs.ValueNames.{read-names}
 use Rattle.canonical.proofs.Defaults.{found-bare}

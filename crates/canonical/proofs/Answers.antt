@@ -23,9 +23,9 @@ use Rattle.lists.specs.Accepted.{AcceptedList}
 use Rattle.lists.proofs.Theorems.{declarations-stages, work-zero, work-kept}
 use Rattle.documents.specs.Answer.{bothStages, CheckRoom, checkServes, checkAnswer}
 use Rattle.documents.proofs.Theorems.{list-first, check-refuses, guarded-long, guarded-long-document, guarded-good}
-use Rattle.canonical.specs.Plan.{Plan}
-use Rattle.canonical.specs.Pieces.{Piece, tokensAt}
-use Rattle.canonical.specs.Layout.{documentPieces, canonical}
+use Rattle.writing.specs.Plan.{Plan}
+use Rattle.writing.specs.Pieces.{Piece, tokensAt}
+use Rattle.writing.specs.Layout.{documentPieces, canonical}
 use Rattle.canonical.specs.Answer.{textStages, canonServes, written, canonAnswer}
 use Rattle.canonical.specs.Demand.{HasPlan, Lent, roomOf, numbers, IsGuard}
 use Rattle.canonical.proofs.PlanFitted.{plan-fits}

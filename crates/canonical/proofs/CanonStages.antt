@@ -34,18 +34,19 @@ use Rattle.documents.specs.Stages.{DocumentPassed}
 use Rattle.documents.specs.Tables.{callTable}
 use Rattle.documents.proofs.BothStages.{list-clean, list-directs, document-clean, both-under}
 use Rattle.canonical.specs.Code as Code
-use Rattle.canonical.specs.Plan.{Plan, planCalls, planOf}
-use Rattle.canonical.specs.Pieces.{Piece, text}
-use Rattle.canonical.specs.Layout.{documentPieces}
+use Rattle.writing.specs.Plan.{Plan, planCalls, planOf}
+use Rattle.writing.specs.Pieces.{Piece, text}
+use Rattle.writing.specs.Layout.{documentPieces}
 use Rattle.canonical.specs.Answer.{laidOut, layoutOf, writingStages, textStages, CanonRoom, canonRoom, canonServes, written, canonAnswer, outputAfter}
-use Rattle.canonical.specs.Writing.{stored, placeAfter, keepsLimits, PutsAll, all-put, left-over, Ranged, Wrote}
-use Rattle.canonical.specs.Writing.{CallsRecorded, ReadableOps, PutsDocument, TextsKept}
-use Rattle.canonical.specs.declared.place.Place.{Place}
-use Rattle.canonical.proofs.Putting.{stored-length}
-use Rattle.canonical.proofs.Measures.{passed-is, stored-is, stored-front, limits-kept, ranged}
-use Rattle.canonical.proofs.PlanExists.{plan-exists}
-use Rattle.canonical.proofs.Planned.{bound}
-use Rattle.canonical.proofs.CallWrites.{readable-calls}
+use Rattle.writing.specs.Writing.{stored, placeAfter, keepsLimits, PutsAll, all-put, left-over, Ranged}
+use Rattle.writing.specs.Writing.{CallsRecorded, ReadableOps, PutsDocument}
+use Rattle.canonical.specs.Inner.{Wrote, TextsKept}
+use Rattle.writing.specs.declared.place.Place.{Place}
+use Rattle.writing.proofs.Putting.{stored-length}
+use Rattle.writing.proofs.Measures.{passed-is, stored-is, stored-front, limits-kept, ranged}
+use Rattle.writing.proofs.PlanExists.{plan-exists}
+use Rattle.writing.proofs.Planned.{bound}
+use Rattle.writing.proofs.CallWrites.{readable-calls}
 
 -- ---- the stages
 

@@ -19,7 +19,7 @@ use Rattle.lists.specs.Accepted.{AcceptedList}
 use Rattle.documents.specs.Binding.{slots}
 use Rattle.documents.specs.Wiring.{strangers, again, unwiredAfter, isExternal, misfedBy, misfed, unmade}
 use Rattle.documents.specs.DocumentRules.{badVersion, documentCounts, graphRepeats, undeclared, argumentFaults, unmatched, documentFaults}
-use Rattle.canonical.specs.Plan.{PlanCall, Plan, spellings, planOf}
+use Rattle.writing.specs.Plan.{PlanCall, Plan, spellings, planOf}
 use Rattle.canonical.proofs.Shape.{CanonCall, CanonCalls, no-calls, a-call, CanonDocument}
 use Rattle.canonical.proofs.Clean.{EmptyToo, both-keep, no-part, a-part, row-keeps}
 use Rattle.canonical.proofs.Spelt.{append-same, equal-within, among-keep, repeats-keep, faults-keep, over-keep, counts-keep}

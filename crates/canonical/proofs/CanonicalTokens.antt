@@ -20,17 +20,17 @@ use Rattle.lexis.specs.Lexer.{Token, accepted, refused, lex}
 use Rattle.syntax.specs.Tree.{Ty, Tys, Param, Header}
 use Rattle.syntax.specs.Grammar.{Leaves, both}
 use Rattle.lists.specs.Reading.{Val, Vals}
-use Rattle.canonical.specs.Plan.{Plan, PlanCall}
-use Rattle.canonical.specs.Spelling.{decimal, spellNumber, holdsSingle, quoteFor, spellString, spellTruth}
-use Rattle.canonical.specs.Pieces.{Piece, text, tokensAt}
-use Rattle.canonical.specs.Layout.{piece, spaced, namePiece, mark, pieces, items, moreItems, leftPieces, moreNamesPieces, namesPieces, argumentPieces}
-use Rattle.canonical.specs.Layout.{moreArgumentsPieces, argumentsPieces, callPieces, callsPieces, documentPieces, canonical}
-use Rattle.canonical.proofs.Fit.{All, none, more, IsWord, IsName, IsNumber, IsText, Fits, fit-name, fit-number, fit-scalar, fit-extent, fit-string}
-use Rattle.canonical.proofs.Fit.{fit-logical, fit-truth, fit-array, fit-tuple, FitsAll, all-none, all-more, FitsEach, each-none, each-more, LeftFits}
-use Rattle.canonical.proofs.Fit.{alone, several, FitsParams, no-param, a-param, CallFits, CallsFit, one-call, more-calls, NamesFit, one-name}
-use Rattle.canonical.proofs.Fit.{more-names, PlanFits}
-use Rattle.canonical.proofs.Found.{params-found}
-use Rattle.canonical.proofs.Runs.{next, span-all, differs}
+use Rattle.writing.specs.Plan.{Plan, PlanCall}
+use Rattle.writing.specs.Spelling.{decimal, spellNumber, holdsSingle, quoteFor, spellString, spellTruth}
+use Rattle.writing.specs.Pieces.{Piece, text, tokensAt}
+use Rattle.writing.specs.Layout.{piece, spaced, namePiece, mark, pieces, items, moreItems, leftPieces, moreNamesPieces, namesPieces, argumentPieces}
+use Rattle.writing.specs.Layout.{moreArgumentsPieces, argumentsPieces, callPieces, callsPieces, documentPieces, canonical}
+use Rattle.writing.proofs.Fit.{All, none, more, IsWord, IsName, IsNumber, IsText, Fits, fit-name, fit-number, fit-scalar, fit-extent, fit-string}
+use Rattle.writing.proofs.Fit.{fit-logical, fit-truth, fit-array, fit-tuple, FitsAll, all-none, all-more, FitsEach, each-none, each-more, LeftFits}
+use Rattle.writing.proofs.Fit.{alone, several, FitsParams, no-param, a-param, CallFits, CallsFit, one-call, more-calls, NamesFit, one-name}
+use Rattle.writing.proofs.Fit.{more-names, PlanFits}
+use Rattle.writing.proofs.Found.{params-found}
+use Rattle.writing.proofs.Runs.{next, span-all, differs}
 use Rattle.canonical.proofs.Digits.{are-digits}
 use Rattle.canonical.proofs.Numbers.{Apart}
 use Rattle.canonical.proofs.Lexing.{isSpace, Lexes, Chain, nil, link, lex-again, lex-too-many, Begins, begins, digits-begin, word-begins, number-begins}

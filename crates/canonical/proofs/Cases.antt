@@ -33,10 +33,10 @@ use Rattle.documents.specs.Wiring as W
 use Rattle.documents.specs.DocumentRules as D
 use Rattle.documents.specs.Answer as A
 use Rattle.documents.specs.Answer.{checkAnswer}
-use Rattle.canonical.specs.Plan as Plan
-use Rattle.canonical.specs.Spelling as S
-use Rattle.canonical.specs.Pieces as Pieces
-use Rattle.canonical.specs.Layout as Layout
+use Rattle.writing.specs.Plan as Plan
+use Rattle.writing.specs.Spelling as S
+use Rattle.writing.specs.Pieces as Pieces
+use Rattle.writing.specs.Layout as Layout
 use Rattle.canonical.specs.Answer as C
 use Rattle.canonical.specs.Answer.{written}
 

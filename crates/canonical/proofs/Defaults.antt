@@ -12,7 +12,7 @@ use Rattle.syntax.specs.Grammar.{Separated, last, next, literals, Spells, a-nam
 use Rattle.syntax.specs.Grammar.{IsDefault, no-default, a-default, IsParam, a-param, IsHeader, a-header, IsList, no-header, a-header-more}
 use Rattle.lists.specs.Names.{namesIn, namesOf}
 use Rattle.lists.specs.Found.{operationOf, find}
-use Rattle.canonical.proofs.Planned.{nothing-some}
+use Rattle.writing.proofs.Planned.{nothing-some}
 
 mutual
   unfolding namesIn namesOf

@@ -31,8 +31,8 @@ use Rattle.documents.specs.Answer.{CheckRoom, checkRoom, checkServes, checked, 
 use Rattle.documents.specs.Accepted.{AcceptedDocument}
 use Rattle.documents.proofs.Theorems as Documents
 use Rattle.canonical.specs.Code as Writing
-use Rattle.canonical.specs.Plan.{Plan}
-use Rattle.canonical.specs.Layout.{documentPieces, canonical}
+use Rattle.writing.specs.Plan.{Plan}
+use Rattle.writing.specs.Layout.{documentPieces, canonical}
 use Rattle.canonical.specs.Answer.{canonServes}
 use Rattle.canonical.specs.Demand.{HasPlan, Keeps, Lent, roomOf, Serves, numbers, output, bytesWritten, IsGuard}
 use Rattle.canonical.specs.CodeTable.{InTable, TokenCount, OperationCount, CallCount, CanonicalLength, NoText}

@@ -13,9 +13,9 @@ use Rattle.lexis.specs.Class as Class
 use Rattle.lexis.specs.Bytes.{classOf, isDigit}
 use Rattle.lexis.specs.Number.{valueFrom}
 use Rattle.lexis.proofs.Caps.{value-snoc}
-use Rattle.canonical.specs.Spelling.{decimalBy, decimal}
-use Rattle.canonical.proofs.Fit.{All, none, more}
-use Rattle.canonical.proofs.Runs.{all-append}
+use Rattle.writing.specs.Spelling.{decimalBy, decimal}
+use Rattle.writing.proofs.Fit.{All, none, more}
+use Rattle.writing.proofs.Runs.{all-append}
 
 -- what holds of one digit, and of a number's digits where it holds of a tenth's, holds of all digits
 module _ (P : ℕ → List ℕ → Type 0) (one : (n : ℕ) → n < 10 → P n ((byte "0" + n) ∷ []))

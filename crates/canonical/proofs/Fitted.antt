@@ -22,10 +22,10 @@ use Rattle.syntax.specs.Grammar.{Leaves, takesNames, takesLiterals, Spells, a-n
 use Rattle.lists.specs.Reading.{Val, Vals, vName, vExtent, vString, vArray, vTuple, no-val, a-val, where-true, isNumber, contentOf, numberOf, truthOf, nameAt}
 use Rattle.lists.specs.Reading.{literalAt, bind, readAt, readAll, readEach}
 use Rattle.documents.proofs.Items.{clash}
-use Rattle.canonical.proofs.Fit.{Lowest, nought, odd, IsName, IsNumber, Fits, fit-name, fit-number, fit-scalar, fit-extent, fit-string, fit-logical}
-use Rattle.canonical.proofs.Fit.{fit-truth, fit-array, fit-tuple, FitsAll, all-none, all-more, FitsEach, each-none, each-more}
-use Rattle.canonical.proofs.Planned.{bound}
-use Rattle.canonical.proofs.Good.{Good, good-name, AllGood}
+use Rattle.writing.proofs.Fit.{Lowest, nought, odd, IsName, IsNumber, Fits, fit-name, fit-number, fit-scalar, fit-extent, fit-string, fit-logical}
+use Rattle.writing.proofs.Fit.{fit-truth, fit-array, fit-tuple, FitsAll, all-none, all-more, FitsEach, each-none, each-more}
+use Rattle.writing.proofs.Planned.{bound}
+use Rattle.writing.proofs.Good.{Good, good-name, AllGood}
 
 -- ---- numbers
 

@@ -32,13 +32,13 @@ use Rattle.documents.proofs.Lines.{DocumentCode}
 use Rattle.documents.proofs.Lines as Documents
 use Rattle.documents.proofs.Refusals.{both-refusal}
 use Rattle.documents.proofs.Theorems.{both-passed}
-use Rattle.canonical.specs.Pieces.{Piece, text}
-use Rattle.canonical.specs.Layout.{documentPieces, canonical}
+use Rattle.writing.specs.Pieces.{Piece, text}
+use Rattle.writing.specs.Layout.{documentPieces, canonical}
 use Rattle.canonical.specs.Answer.{layoutOf, writingStages, textStages, canonServes, written, canonAnswer}
 use Rattle.canonical.specs.Demand.{HasPlan, Lent, roomOf, numbers}
 use Rattle.canonical.specs.CodeTable as T
 use Rattle.canonical.specs.CodeTable.{TextOf, first-text, second-text, InTable, TokenCount, OperationCount, CallCount, CanonicalLength, NoText}
-use Rattle.canonical.proofs.PlanExists.{plan-exists}
+use Rattle.writing.proofs.PlanExists.{plan-exists}
 use Rattle.canonical.proofs.Theorems.{layout-is}
 
 -- ---- the codes of bytes

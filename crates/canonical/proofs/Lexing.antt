@@ -24,10 +24,10 @@ use Rattle.lexis.specs.declared.token.Lexeme.{Lexeme}
 use Rattle.lexis.specs.declared.token.Lexeme.the-variants.{Token}
 use Rattle.lexis.proofs.Lexer.{lex-nil, lex-gap, lex-token}
 use Rattle.lexis.proofs.Marks.{mark-alone, mark-equal}
-use Rattle.canonical.specs.Spelling.{decimal, spellExponent, spellNumber, quoted}
-use Rattle.canonical.specs.Pieces.{Piece, text, tokensAt}
-use Rattle.canonical.proofs.Fit.{All, none, more, IsWord, IsNumber}
-use Rattle.canonical.proofs.Runs.{next, span-again}
+use Rattle.writing.specs.Spelling.{decimal, spellExponent, spellNumber, quoted}
+use Rattle.writing.specs.Pieces.{Piece, text, tokensAt}
+use Rattle.writing.proofs.Fit.{All, none, more, IsWord, IsNumber}
+use Rattle.writing.proofs.Runs.{next, span-again}
 use Rattle.canonical.proofs.Digits.{IsDigits, some-digits, are-digits}
 use Rattle.canonical.proofs.Numbers.{Apart, number-again, whole-again}
 

@@ -17,9 +17,9 @@ use Rattle.documents.specs.Binding.{lacked}
 use Rattle.documents.specs.Wiring.{strangers}
 use Rattle.documents.proofs.Lookups.{among-append}
 use Rattle.documents.proofs.Sought.{same-self, same-sym}
-use Rattle.canonical.specs.Plan.{valueFor, valuesFor, spellings}
+use Rattle.writing.specs.Plan.{valueFor, valuesFor, spellings}
 use Rattle.canonical.proofs.Shape.{Named, no-arg, an-arg}
-use Rattle.canonical.proofs.Planned.{nothing-some, both}
+use Rattle.writing.proofs.Planned.{nothing-some, both}
 use Rattle.canonical.proofs.Spelt.{equal-within, among-keep, fresh, repeats-keep}
 
 -- ---- 18, 19: slots that have values

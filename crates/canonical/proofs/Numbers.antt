@@ -24,9 +24,9 @@ use Rattle.lexis.specs.declared.token.Lexeme.the-variants.{Token}
 use Rattle.lexis.proofs.Signs.{pos-sub}
 use Rattle.lexis.proofs.Reduction.{strip-is}
 use Rattle.lexis.proofs.Ranges.{range-plain}
-use Rattle.canonical.specs.Spelling.{decimal, spellExponent, spellNumber}
-use Rattle.canonical.proofs.Fit.{Lowest, nought, odd, IsNumber}
-use Rattle.canonical.proofs.Runs.{next, span-again, next-seam, differs}
+use Rattle.writing.specs.Spelling.{decimal, spellExponent, spellNumber}
+use Rattle.writing.proofs.Fit.{Lowest, nought, odd, IsNumber}
+use Rattle.writing.proofs.Runs.{next, span-again, next-seam, differs}
 use Rattle.canonical.proofs.Digits.{value-digits, IsDigits, some-digits, all-digits, are-digits, digits-length}
 
 -- a byte that goes on with no word and no number

@@ -29,15 +29,15 @@ use Rattle.lists.proofs.Faultless.{apart-params}
 use Rattle.documents.specs.Binding.{leading, byPlace, later, byName, orElse, slots, slotsFrom}
 use Rattle.documents.specs.Accepted.{AcceptedDocument}
 use Rattle.documents.proofs.Items.{clash}
-use Rattle.canonical.specs.Plan.{Plan, PlanCall, spellings, valueFor, valuesFor, planCall, planCalls, planOf}
-use Rattle.canonical.specs.Layout.{leftPieces}
-use Rattle.canonical.proofs.Fit.{IsName, Fits, fit-name, fit-number, fit-scalar, fit-extent, fit-string, fit-logical, fit-truth, fit-array, fit-tuple}
-use Rattle.canonical.proofs.Fit.{LeftFits, alone, several, FitsParams, no-param, a-param, CallFits, CallsFit, one-call, more-calls, NamesFit, one-name}
-use Rattle.canonical.proofs.Fit.{more-names, PlanFits}
-use Rattle.canonical.proofs.Good.{Each, good-name, AllGood, lex-good}
-use Rattle.canonical.proofs.Planned.{bound}
-use Rattle.canonical.proofs.Found.{find-same}
-use Rattle.canonical.proofs.PlanExists.{find-each, found-clean}
+use Rattle.writing.specs.Plan.{Plan, PlanCall, spellings, valueFor, valuesFor, planCall, planCalls, planOf}
+use Rattle.writing.specs.Layout.{leftPieces}
+use Rattle.writing.proofs.Fit.{IsName, Fits, fit-name, fit-number, fit-scalar, fit-extent, fit-string, fit-logical, fit-truth, fit-array, fit-tuple}
+use Rattle.writing.proofs.Fit.{LeftFits, alone, several, FitsParams, no-param, a-param, CallFits, CallsFit, one-call, more-calls, NamesFit, one-name}
+use Rattle.writing.proofs.Fit.{more-names, PlanFits}
+use Rattle.writing.proofs.Good.{Each, good-name, AllGood, lex-good}
+use Rattle.writing.proofs.Planned.{bound}
+use Rattle.writing.proofs.Found.{find-same}
+use Rattle.writing.proofs.PlanExists.{find-each, found-clean}
 use Rattle.canonical.proofs.Fitted.{Reads, Pair, pair, spells-rest, items-rest, spells-fits, tuple-pair, wider, each-wider}
 
 -- ---- rows

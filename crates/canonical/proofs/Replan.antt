@@ -3,7 +3,7 @@ use mathlib.Core.Path.{_≡_, refl}
 use mathlib.Core.List.{List}
 use mathlib.Core.Option.{some}
 use Rattle.syntax.specs.Tree.{Header, Call, Document}
-use Rattle.canonical.specs.Plan.{PlanCall, Plan, planCall, planCalls, planOf}
+use Rattle.writing.specs.Plan.{PlanCall, Plan, planCall, planCalls, planOf}
 use Rattle.canonical.proofs.NamedArguments.{named-values}
 use Rattle.canonical.proofs.Shape.{CanonCall, CanonCalls, no-calls, a-call, CanonDocument}
 

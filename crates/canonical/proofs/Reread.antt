@@ -21,13 +21,13 @@ use Rattle.syntax.specs.Tree.Values.{none, more}
 use Rattle.syntax.specs.Tree.Ty.{arrayOf}
 use Rattle.syntax.specs.Grammar.{Leaves, takesLiterals, Spells, a-name, a-literal, an-empty-array, an-array, a-tuple, Items, last-item, next-item}
 use Rattle.lists.specs.Reading.{Val, Vals, vArray, a-val, contentOf, literalAt, readAt, readAll, readEach}
-use Rattle.canonical.specs.Spelling.{decimal, spellNumber, quoteFor, quoted, spellString, spellTruth}
-use Rattle.canonical.specs.Pieces.{Piece, tokensAt}
-use Rattle.canonical.specs.Layout.{piece, namePiece, mark, pieces, items, moreItems}
-use Rattle.canonical.proofs.Fit.{Fits, fit-name, fit-number, fit-scalar, fit-extent, fit-string, fit-logical, fit-truth, fit-array, fit-tuple}
+use Rattle.writing.specs.Spelling.{decimal, spellNumber, quoteFor, quoted, spellString, spellTruth}
+use Rattle.writing.specs.Pieces.{Piece, tokensAt}
+use Rattle.writing.specs.Layout.{piece, namePiece, mark, pieces, items, moreItems}
+use Rattle.writing.proofs.Fit.{Fits, fit-name, fit-number, fit-scalar, fit-extent, fit-string, fit-logical, fit-truth, fit-array, fit-tuple}
 use Rattle.canonical.proofs.Digits.{value-digits}
 use Rattle.canonical.proofs.Numbers.{read-number}
-use Rattle.canonical.proofs.Fit.{FitsAll, all-none, all-more, FitsEach, each-none, each-more}
+use Rattle.writing.proofs.Fit.{FitsAll, all-none, all-more, FitsEach, each-none, each-more}
 
 -- ---- placed pieces
 

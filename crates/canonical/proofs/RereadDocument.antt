@@ -19,16 +19,16 @@ use Rattle.syntax.specs.Grammar.{Separated, last, next, names, both, Spells, a-
 use Rattle.syntax.specs.Grammar.{IsName, the-name, IsArg, a-named, IsLeft, one-pattern, a-bare-tuple}
 use Rattle.syntax.specs.Grammar.{a-semicolon, IsCall, a-call, IsBody, last-call, next-call, IsDocument, a-document}
 use Rattle.lists.specs.Reading.{Val, a-val, readAt, readEach}
-use Rattle.canonical.specs.Plan.{PlanCall, Plan, spellings}
-use Rattle.canonical.specs.Pieces.{Piece, tokensAt}
-use Rattle.canonical.specs.Layout as Layout
-use Rattle.canonical.specs.Layout.{namePiece, mark, spaced, lined, pieces, items, moreItems, leftPieces, moreNamesPieces}
-use Rattle.canonical.specs.Layout.{argumentPieces, moreArgumentsPieces, argumentsPieces, callPieces, callsPieces, documentPieces}
-use Rattle.canonical.proofs.Fit.{LeftFits, alone, several, FitsParams, no-param, a-param, CallFits}
-use Rattle.canonical.proofs.Fit.{CallsFit, one-call, more-calls, NamesFit, one-name, more-names, PlanFits}
+use Rattle.writing.specs.Plan.{PlanCall, Plan, spellings}
+use Rattle.writing.specs.Pieces.{Piece, tokensAt}
+use Rattle.writing.specs.Layout as Layout
+use Rattle.writing.specs.Layout.{namePiece, mark, spaced, lined, pieces, items, moreItems, leftPieces, moreNamesPieces}
+use Rattle.writing.specs.Layout.{argumentPieces, moreArgumentsPieces, argumentsPieces, callPieces, callsPieces, documentPieces}
+use Rattle.writing.proofs.Fit.{LeftFits, alone, several, FitsParams, no-param, a-param, CallFits}
+use Rattle.writing.proofs.Fit.{CallsFit, one-call, more-calls, NamesFit, one-name, more-names, PlanFits}
 use Rattle.canonical.proofs.Shape as Shape
 use Rattle.canonical.proofs.Shape.{Named, no-arg, an-arg, CanonCall, CanonCalls, no-calls, CanonDocument}
-use Rattle.canonical.proofs.Found.{params-found}
+use Rattle.writing.proofs.Found.{params-found}
 use Rattle.canonical.proofs.Reread.{placed, past, Back, value-back, each-back}
 
 -- ---- rows in round brackets

@@ -11,7 +11,7 @@ use Rattle.lists.specs.Names.{repeats}
 use Rattle.lists.specs.ListRules.{paramNames}
 use Rattle.lists.specs.Found.{find}
 use Rattle.lists.specs.Reading.{Val, readAt, resultType}
-use Rattle.canonical.specs.Plan.{Plan, PlanCall, spellings}
+use Rattle.writing.specs.Plan.{Plan, PlanCall, spellings}
 
 pub data Named : List Param → List Val → List Arg → Type 0 where
   no-arg : Named [] [] []

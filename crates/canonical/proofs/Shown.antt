@@ -15,13 +15,14 @@ use Rattle.lexis.specs.declared.Answer.{Answer}
 use Rattle.lists.specs.Answer.{Stage, pass, stop, andThen, guard, stageAnswer}
 use Rattle.documents.specs.Answer.{bothStages}
 use Rattle.documents.proofs.Refusals.{both-codes}
-use Rattle.canonical.specs.Pieces.{Piece, text}
+use Rattle.writing.specs.Pieces.{Piece, text}
 use Rattle.canonical.specs.Answer.{layoutOf, writingStages, textStages, CanonRoom, canonRoom, canonServes, written, canonAnswer, outputAfter}
 use Rattle.canonical.specs.Program.{printed, shown}
-use Rattle.canonical.specs.Writing.{passed, stored, numberThen}
+use Rattle.writing.specs.Writing.{passed, stored}
+use Rattle.canonical.specs.Inner.{numberThen}
 use Rattle.canonical.proofs.Digits.{digits-length}
-use Rattle.canonical.proofs.Putting.{Stores, stores-then}
-use Rattle.canonical.proofs.Measures.{passed-is, stored-is, stored-front}
+use Rattle.writing.proofs.Putting.{Stores, stores-then}
+use Rattle.writing.proofs.Measures.{passed-is, stored-is, stored-front}
 
 -- ---- four numbers
 

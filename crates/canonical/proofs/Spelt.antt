@@ -13,7 +13,7 @@ use Rattle.lists.specs.Names.{those, isAmong, repeatsAfter}
 use Rattle.lists.specs.ListRules.{over}
 use Rattle.lists.proofs.Faultless.{no-faults, no-starts}
 use Rattle.lists.proofs.Faultless.{none-beyond}
-use Rattle.canonical.specs.Plan.{spellings}
+use Rattle.writing.specs.Plan.{spellings}
 use Rattle.canonical.proofs.Clean.{EmptyToo}
 
 pub spellings-append : (ts us : List Token) → spellings (ts ++ us) ≡ spellings ts ++ spellings us

@@ -22,12 +22,12 @@ use Rattle.documents.specs.Answer.{bothStages, Checked, CheckRoom, checkServes,
 use Rattle.documents.specs.Accepted.{AcceptedDocument}
 use Rattle.documents.proofs.Theorems.{both-pass, both-passed, guarded-good, guarded-passed, guarded-codes, answer-passed}
 use Rattle.canonical.specs.Code as Writing
-use Rattle.canonical.specs.Plan.{Plan, planOf}
-use Rattle.canonical.specs.Pieces.{Piece, text}
-use Rattle.canonical.specs.Layout.{documentPieces, canonical}
+use Rattle.writing.specs.Plan.{Plan, planOf}
+use Rattle.writing.specs.Pieces.{Piece, text}
+use Rattle.writing.specs.Layout.{documentPieces, canonical}
 use Rattle.canonical.specs.Answer.{layoutOf, writingStages, textStages, canonServes, written, canonAnswer, outputAfter}
 use Rattle.canonical.specs.Demand.{HasPlan, Keeps, Lent, roomOf, Serves, numbers, output, bytesWritten}
-use Rattle.canonical.proofs.PlanExists.{plan-exists}
+use Rattle.writing.proofs.PlanExists.{plan-exists}
 use Rattle.canonical.proofs.PlanFitted.{plan-fits}
 use Rattle.canonical.proofs.CanonicalTokens.{lex-canonical}
 use Rattle.canonical.proofs.RereadDocument.{document-back}

@@ -18,9 +18,9 @@ use Rattle.documents.specs.Binding.{Slot, leading, byPlace, later, byName, orEl
 use Rattle.documents.proofs.Sought.{None, Only, ofName, seek-none, seek-only}
 use Rattle.documents.proofs.Sought.None.{nil, cons}
 use Rattle.documents.proofs.Sought.Only.{here, there}
-use Rattle.canonical.specs.Plan.{valueFor, valuesFor, spellings}
+use Rattle.writing.specs.Plan.{valueFor, valuesFor, spellings}
 use Rattle.canonical.proofs.Shape.{Named, no-arg, an-arg}
-use Rattle.canonical.proofs.Planned.{bound, both}
+use Rattle.writing.proofs.Planned.{bound, both}
 use Rattle.canonical.proofs.Spelt.{spellings-append, tally, tally-append, Within}
 use Rattle.canonical.proofs.ValueNames.{valNames, read-names}
 use Rattle.canonical.proofs.Defaults.{Bare, no-bare, a-bare}

@@ -16,8 +16,8 @@ use Rattle.syntax.specs.Tree.Tys.{no-type, a-type}
 use Rattle.lists.specs.Names.{namesIn, namesOf}
 use Rattle.lists.specs.Reading.{Val, Vals, vName, vNumber, vExtent, vString, vLogical, vArray, vTuple, no-val, a-val, where-true, nameAt, isNumber, contentOf}
 use Rattle.lists.specs.Reading.{numberOf, truthOf, literalAt, bind, readAt, readAll, readEach}
-use Rattle.canonical.specs.Plan.{spellings}
-use Rattle.canonical.proofs.Planned.{nothing-some, bound, both}
+use Rattle.writing.specs.Plan.{spellings}
+use Rattle.writing.proofs.Planned.{nothing-some, bound, both}
 use Rattle.canonical.proofs.Spelt.{spellings-append}
 
 unfoldable mutual

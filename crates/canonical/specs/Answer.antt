@@ -13,9 +13,9 @@ use Rattle.syntax.specs.Tree.{Header, Document}
 use Rattle.lists.specs.Answer.{Stage, pass, andThen, guard, guarded, stageAnswer, tableAfter}
 use Rattle.documents.specs.Answer.{bothStages}
 use Rattle.canonical.specs.Code as Code
-use Rattle.canonical.specs.Plan.{Plan, planOf}
-use Rattle.canonical.specs.Pieces.{Piece, text}
-use Rattle.canonical.specs.Layout.{documentPieces}
+use Rattle.writing.specs.Plan.{Plan, planOf}
+use Rattle.writing.specs.Pieces.{Piece, text}
+use Rattle.writing.specs.Layout.{documentPieces}
 
 -- the pieces of a document's canonical text; an accepted document has a plan
 abbrev pub laidOut : List Header → Option Plan → List Piece

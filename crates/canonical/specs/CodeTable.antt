@@ -18,8 +18,8 @@ use Rattle.syntax.specs.Tree.{Header, Document}
 use Rattle.lists.specs.Accepted.{AcceptedList, StartsToken}
 use Rattle.documents.specs.Accepted.{AcceptedDocument}
 use Rattle.canonical.specs.Code as Writing
-use Rattle.canonical.specs.Plan.{Plan}
-use Rattle.canonical.specs.Layout.{canonical}
+use Rattle.writing.specs.Plan.{Plan}
+use Rattle.writing.specs.Layout.{canonical}
 use Rattle.canonical.specs.Demand.{HasPlan}
 
 -- the texts that an operation is lent: the operation list, or the sole text, is number 1, the document number 2

@@ -10,8 +10,8 @@ use Rattle.lexis.specs.Code as Code
 use Rattle.lexis.specs.declared.Answer.{Answer}
 use Rattle.syntax.specs.Tree.{Header, Document}
 use Rattle.documents.specs.Accepted.{AcceptedDocument}
-use Rattle.canonical.specs.Plan.{Plan, planOf}
-use Rattle.canonical.specs.Layout.{documentPieces, canonical}
+use Rattle.writing.specs.Plan.{Plan, planOf}
+use Rattle.writing.specs.Layout.{documentPieces, canonical}
 use Rattle.canonical.specs.Answer.{CanonRoom, written, canonAnswer, outputAfter}
 
 -- a document that is accepted under these headers, and its plan

@@ -3,7 +3,7 @@ use mathlib.Core.List.{List, [], _∷_, _++_}
 use Prim.Native.Nat.{ℕ}
 use Rattle.lexis.specs.declared.Answer.{Answer}
 use Rattle.lists.specs.Answer.{Stage, pass, stop}
-use Rattle.canonical.specs.Spelling.{decimal}
+use Rattle.writing.specs.Spelling.{decimal}
 
 -- four numbers in decimal with one space between, and a line feed
 unfoldable pub printed : Answer → List ℕ

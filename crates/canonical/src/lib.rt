@@ -1,17 +1,8 @@
-// The canonical text of documents, and the operation that writes it.
-mod argument;
-mod call;
+// The operation that writes the canonical text of a document.
 mod code;
-mod document;
-mod pattern;
-mod place;
 pub mod program;
-mod spelling;
-mod value;
-mod writer;
 
 use code::Code;
-use document::put_document;
 use documents::check::long_text;
 use documents::records::Records;
 use documents::stages::Sizes;
@@ -22,8 +13,9 @@ use lexis::class::CLASSES;
 use lexis::limits::Limits;
 use lists::clear;
 use lists::directory::Room;
-use place::keeps_limits;
-use place::put_bytes;
+use writing::document::put_document;
+use writing::place::keeps_limits;
+use writing::place::put_bytes;
 ghost use mathlib.Core.Path.{_≡_};
 ghost use mathlib.Core.Bool.{_&&_};
 ghost use Prim.Native.Nat.{_≤_, min};
@@ -35,7 +27,7 @@ ghost use Rattle.lists.specs.Answer.{workAfter};
 ghost use Rattle.lists.specs.Stages.{Served};
 ghost use Rattle.documents.specs.Records.{recordsWords};
 ghost use Rattle.canonical.specs.Answer.{textStages, canonRoom, written, canonAnswer, outputAfter};
-ghost use Rattle.canonical.specs.Writing.{Wrote, TextsKept};
+ghost use Rattle.canonical.specs.Inner.{Wrote, TextsKept};
 
 // The bytes of a document whose canonical text goes into a short buffer, and the bytes of that buffer.
 const SHORT_TEXT: usize = 512;

@@ -1,14 +1,15 @@
 // What the program writes of an operation list and a document.
 use crate::canon;
-use crate::place::put_byte;
-use crate::spelling::put_digits;
 use lexis::Answer;
 use lexis::code::Code;
+use writing::place::put_byte;
+use writing::spelling::put_digits;
 ghost use mathlib.Core.Path.{_≡_};
 ghost use Rattle.lists.specs.Answer.{workAfter};
 ghost use Rattle.canonical.specs.Answer.{canonRoom, written, canonAnswer};
 ghost use Rattle.canonical.specs.Program.{printed, shown};
-ghost use Rattle.canonical.specs.Writing.{passed, stored, numberThen};
+ghost use Rattle.writing.specs.Writing.{passed, stored};
+ghost use Rattle.canonical.specs.Inner.{numberThen};
 
 // Stores a number in decimal and one byte after it, and gives the position after them.
 fn put_number_then(out: &mut [u8], at: usize, n: u32, b: u8) -> usize

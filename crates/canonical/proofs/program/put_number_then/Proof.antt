@@ -1,8 +1,8 @@
 -- The digits, then the byte.
 use mathlib.Core.List.{[], _∷_}
 use borrow.Author.Needs.{needs}
-use Rattle.canonical.specs.Spelling.{decimal}
-use Rattle.canonical.proofs.Putting.{stores-byte, stores-then}
+use Rattle.writing.specs.Spelling.{decimal}
+use Rattle.writing.proofs.Putting.{stores-byte, stores-then}
 use Rattle.canonical.proofs.program.put_number_then.Statement.{statement}
 use Rattle.canonical.proofs.program.put_number_then.Tie as tie
 

@@ -1,0 +1,8 @@
+-- The plan of a document, how its values are spelt, and its canonical text, in the order in which to read them.
+pub mod Plan
+pub mod Spelling
+pub mod Pieces
+pub mod Layout
+-- What only the contracts of the code cite.
+pub mod Writing
+pub mod Writer
