@@ -235,7 +235,7 @@ fn used_at(
     tally.next(code, place)
 }
 
-// The uses of the arguments of call k from place `from` up to place `to`.
+// The uses of the arguments of call k from place `from` up to place `to`. Most tokens are none, and are passed over in the loop.
 pub fn used(
     text: &[u8],
     table: &[u32],

@@ -201,7 +201,8 @@ fn fits_one(
     fits_base(vtext, vtable, vn, v, s, ttext, ttable, tn, t, kinds, k)
 }
 
-// Whether the items of the array after its bracket at place v fit the base at place t under k pairs of square brackets.
+// Whether the items of the array after its bracket at place v fit the base at place t under k pairs of square brackets. A leaf is settled in the
+// loop: what a call needs is copied at each turn.
 fn fits_array(
     vtext: &[u8],
     vtable: &[u32],

@@ -5,7 +5,7 @@ use crate::symbol::fault_at;
 use crate::symbol::symbol_at;
 use lexis::symbol::Symbol;
 ghost use mathlib.Core.Path.{_≡_};
-ghost use Prim.Native.Nat.{_<_, _≤_};
+ghost use Prim.Native.Nat.{_≤_};
 ghost use lib.Dec.{ltb};
 ghost use lib.ListN.{length};
 ghost use Rattle.lexis.specs.Symbol.{rightRound};

@@ -1,5 +1,4 @@
 -- The guess is below the count, and its parameter is spelt so.
-use mathlib.Core.Path.{_∙_}
 use native.Mathlib.Omega.{arith}
 use borrow.Author.Tests.{lt-ltb, le-ltb}
 use borrow.Author.Needs.{needs}
