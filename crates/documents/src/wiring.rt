@@ -13,7 +13,7 @@ use lists::best::Best;
 use lists::word::start_at;
 use syntax::symbol::symbol_at;
 ghost use mathlib.Core.Path.{_≡_};
-ghost use mathlib.Core.Bool.{cond, true};
+ghost use mathlib.Core.Bool.{cond};
 ghost use mathlib.Core.List.{_∷_, []};
 ghost use Prim.Native.Nat.{suc, _+_, _-_, _<_, _≤_};
 ghost use lib.Dec.{eqb, ltb};
@@ -23,7 +23,7 @@ ghost use Rattle.syntax.specs.Table.{tokenAt, toks, Holds};
 ghost use Rattle.index.specs.Indexed.{Walkable};
 ghost use Rattle.lists.specs.Fault.{earlier};
 ghost use Rattle.lists.specs.Best.{meant};
-ghost use Rattle.lists.specs.Scans.{isUse, namesAmong, usesAmong, usesHere};
+ghost use Rattle.lists.specs.Scans.{isUse, namesAmong, usesAmong};
 ghost use Rattle.documents.specs.Walks.{misfeeds, coded};
 ghost use Rattle.documents.specs.Records.{recordsWords, wired};
 ghost use Rattle.documents.specs.NameWalks.{Assigns, Uses};
@@ -195,7 +195,6 @@ fn used_at(
     text: &[u8],
     table: &[u32],
     n: usize,
-    to: usize,
     i: usize,
     k: usize,
     index: &[u16],
@@ -203,14 +202,13 @@ fn used_at(
     tally: Tally,
 ) -> Tally
     requires { ⌜ Holds (now text) (now table) n ⌝ }
-    requires { ⌜ (to ≤ n) × (i < to) × (i < maxTokens) × (k ≤ maxTokens) × (tally .count ≤ i) ⌝ }
-    requires { ⌜ isUse (tokenAt (now text) (now table) i) (toks (now text) (now table) to (i + 1)) ≡ true ⌝ }
+    requires { ⌜ (i < n) × (i < maxTokens) × (k ≤ maxTokens) × (tally .count ≤ i) ⌝ }
     requires { ⌜ (length (now text) ≤ maxText) × (recordsWords ≤ length (now records)) ⌝ }
     requires { ⌜ Walkable (now index) n n ⌝ }
     ensures { λ r. ⌜ (tally .count ≤ r .count) × (r .count ≤ suc (tally .count)) ⌝ }
     ensures { λ _. ⌜ length (now (records .exit)) ≡ length (now (records .entry)) ⌝ }
     ensures { λ r. ⌜ Uses (now (text .entry)) (now (table .entry)) (now (index .entry)) (now (records .entry)) (now (records .exit)) k
-        (usesHere (tokenAt (now (text .entry)) (now (table .entry)) i) (toks (now (text .entry)) (now (table .entry)) to (i + 1))) tally r ⌝ }
+        (tokenAt (now (text .entry)) (now (table .entry)) i ∷ []) tally r ⌝ }
 {
     let place = start_at(table, i);
     let a = look_up(
@@ -260,7 +258,7 @@ pub fn used(
     let mut i = from;
     while i < to {
         if is_use(text, table, n, to, i) {
-            sum = used_at(text, table, n, to, i, k, index, &mut *records, sum);
+            sum = used_at(text, table, n, i, k, index, &mut *records, sum);
         }
         i += 1;
     }

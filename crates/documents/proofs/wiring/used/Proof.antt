@@ -11,7 +11,7 @@ use Rattle.lists.specs.Scans.{usesHere}
 use Rattle.documents.specs.Walks.{consuming}
 use Rattle.documents.specs.Naming.{numbered, assigners}
 use Rattle.documents.specs.NameWalks.{Uses}
-use Rattle.documents.proofs.Walking.{Using, using-start, using-next, using-end, here-none}
+use Rattle.documents.proofs.Walking.{Using, using-start, using-next, using-end, here-some, here-none}
 use Rattle.documents.proofs.NameTurns.{turn-none, no-wires}
 use borrow.Author.Needs.{needs}
 use Rattle.documents.proofs.wiring.used.Statement.{statement}
@@ -51,8 +51,8 @@ used-at-requires c κs =
     let p = s .pre .1 .0 in (
       s .pre .0,
       (
-        (p .0, t, omega (arith, t, p .0, p .1), p .2, omega (arith, l .inv .0, l .inv .1, p .3)),
-        (sym (e .is-use .ensures) ∙ c .before .if1 .taken, ((s .pre .1 .1 .0 .0, omega (arith, l .inv .3, s .pre .1 .1 .0 .1)), s .pre .1 .1 .1)),
+        (omega (arith, t, p .0), omega (arith, t, p .0, p .1), p .2, omega (arith, l .inv .0, l .inv .1, p .3)),
+        ((s .pre .1 .1 .0 .0, omega (arith, l .inv .3, s .pre .1 .1 .0 .1)), s .pre .1 .1 .1),
       ),
     )
 
@@ -67,9 +67,12 @@ one j =
     let e = j .before in
     let l = e .before .before .loop in
     let a = e .before .before .before .before .before .before .before .args in
-    ⊎-elim (λ w. rw (w .5, w .6) (w .2 .ensures .0, w .2 .ensures .1 .0, w .2 .ensures .1 .1)) (λ w.
-    let none = here-none (tokenAt (a .text .now) (a .table .now) (l .i)) (toks (a .text .now) (a .table .now) (a .to) (l .i + 1))
-    (sym (e .is-use .ensures) ∙ w .0 .left) in
+    let here = tokenAt (a .text .now) (a .table .now) (l .i) in
+    let after = toks (a .text .now) (a .table .now) (a .to) (l .i + 1) in
+    ⊎-elim (λ w.
+    let counted = here-some here after (sym (e .is-use .ensures) ∙ w .0 .taken) in
+    rw (w .5, w .6, counted) (w .2 .ensures .0, w .2 .ensures .1 .0, w .2 .ensures .1 .1)) (λ w.
+    let none = here-none here after (sym (e .is-use .ensures) ∙ w .0 .left) in
     rw (w .1, w .2) (
       (omega arith, omega arith),
       refl,

@@ -1,13 +1,12 @@
-use mathlib.Core.Path.{ap, subst, _∙_}
+use mathlib.Core.Path.{refl, ap, subst, _∙_}
 use mathlib.Core.Bool.{Bool, cond}
 use mathlib.Core.List.{List}
-use Prim.Native.Nat.{ℕ, _+_}
+use Prim.Native.Nat.{ℕ}
 use native.Mathlib.Omega.{arith}
 use lib.ListN.{length}
-use Rattle.syntax.specs.Table.{tokenAt, toks}
+use Rattle.syntax.specs.Table.{tokenAt}
 use Rattle.index.specs.Mapped.{LooksUp}
 use Rattle.documents.specs.Code as Code
-use Rattle.documents.proofs.Walking.{here-some}
 use Rattle.documents.proofs.NameTurns.{used-name}
 use Rattle.documents.proofs.Recording.{wire-length}
 use borrow.Author.Needs.{needs}
@@ -30,9 +29,9 @@ wire-requires : tie.Need-wire-requires
 wire-requires c κs =
     let started = c .before .before .before .before in
     let s = started .before .before .before .before .before in
-    let w = s .pre .0 .within (s .args .i) (omega (arith, s .pre .1 .0 .0, s .pre .1 .0 .1)) in (
-      s .pre .1 .1 .1 .0 .1,
-      (omega (arith, started .start-at .ensures, w .0, w .1, s .pre .1 .1 .1 .0 .0), omega (arith, c .wired .ensures .1, s .pre .1 .0 .3)),
+    let w = s .pre .0 .within (s .args .i) (s .pre .1 .0 .0) in (
+      s .pre .1 .1 .0 .1,
+      (omega (arith, started .start-at .ensures, w .0, w .1, s .pre .1 .1 .0 .0), omega (arith, c .wired .ensures .1, s .pre .1 .0 .2)),
     )
 
 is-unwired-requires : tie.Need-is-unwired-requires
@@ -47,7 +46,7 @@ code-if-requires-2 c κs = search needs
 next-requires : tie.Need-next-requires
 next-requires c κs =
     let s = c .before .before .before .before .before .before .before .before .before .before .before .before .before .before .before .before in
-    omega (arith, s .pre .1 .0 .2, s .pre .1 .0 .4)
+    omega (arith, s .pre .1 .0 .1, s .pre .1 .0 .3)
 
 same-length : tie.Need-same-length
 same-length c = search needs
@@ -64,14 +63,12 @@ returns c =
     let read = sought .before in
     let started = read .before in
     let s = started .before .before .before .before .before in
-    let a = s .args in
-    let one = here-some (tokenAt (a .text .now) (a .table .now) (a .i)) (toks (a .text .now) (a .table .now) (a .to) (a .i + 1))
-    (s .pre .1 .1 .0) in (
+    let a = s .args in (
       (omega (arith, c .next .ensures .1), omega (arith, c .next .ensures .1)),
       (
         ap (λ (l : List ℕ). length l) (stored .wire .ensures) ∙ wire-length (a .records .now) (a .tally .count) _,
         used-name (a .text .now) (a .table .now) (a .index .now) (a .records .now) _ (a .i) (a .k) (a .tally) (c .next .result) (coded .code-if2 .result)
-            (started .start-at .result) (sought .look-up .result) (wired .wired .result) (unwired .code-if .result) one
+            (started .start-at .result) (sought .look-up .result) (wired .wired .result) (unwired .code-if .result) refl
             (subst (λ (v : List ℕ). LooksUp (a .text .now) (a .table .now) (a .index .now) v 1 (sought .look-up .result)) (read .bytes-at .ensures)
             (sought .look-up .ensures))
             (started .start-at .ensures) (wired .wired .ensures .0) (stored .wire .ensures)
