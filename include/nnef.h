@@ -29,7 +29,7 @@ extern "C" {
 #endif
 
 /* The version of the library that this header belongs to. */
-#define NNEF_LIBRARY_VERSION "1.0.0"
+#define NNEF_LIBRARY_VERSION "2.0.0"
 
 /* Sizes: the most that there may be. */
 #define NNEF_TEXT_BYTES 16384 /* bytes of a text */
@@ -48,12 +48,12 @@ extern "C" {
 #define NNEF_USES 1024        /* places of a graph that use an identifier */
 
 /* Words of one record. */
-#define NNEF_TOKEN_RECORD_WORDS 3
+#define NNEF_TOKEN_RECORD_WORDS 4
 #define NNEF_CALL_RECORD_WORDS 4
 #define NNEF_WIRE_RECORD_WORDS 2
 
 /* Words that are to be lent, at least. */
-#define NNEF_TABLE_WORDS 12288 /* of a token table */
+#define NNEF_TABLE_WORDS 16384 /* of a token table */
 #define NNEF_WORK_WORDS 16384  /* of a work area */
 #define NNEF_CALL_WORDS 1536   /* of a call table */
 #define NNEF_WIRE_WORDS 2048   /* of a wire table */
@@ -140,10 +140,11 @@ enum nnef_kind {
  * text. A text of length 0 is accepted.
  *
  * When the text is accepted, detail is the number of its tokens, and the token
- * at place i, counted from 0, is in table[3*i] (its kind), table[3*i + 1] (the
- * place of its first byte) and table[3*i + 2] (the place after its last byte).
- * The words behind the last token keep what they held. When the text is
- * refused, the whole table keeps what it held.
+ * at place i, counted from 0, is in table[4*i] (its kind), table[4*i + 1] (the
+ * place of its first byte), table[4*i + 2] (the place after its last byte) and
+ * table[4*i + 3] (its line: one more than the number of bytes 10 before it, in
+ * comments or not). The words behind the last token keep what they held. When
+ * the text is refused, the whole table keeps what it held.
  */
 nnef_answer nnef_tokens(const uint8_t *text, size_t text_len,
                         uint32_t *table, size_t table_len);

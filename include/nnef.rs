@@ -5,7 +5,7 @@
 #![allow(dead_code)]
 
 /// The version of the library that this module belongs to.
-pub const LIBRARY_VERSION: &str = "1.0.0";
+pub const LIBRARY_VERSION: &str = "2.0.0";
 
 // Sizes: the most that there may be.
 pub const TEXT_BYTES: usize = 16_384;
@@ -24,12 +24,12 @@ pub const ASSIGNED: usize = 1_024;
 pub const USES: usize = 1_024;
 
 // Words of one record.
-pub const TOKEN_RECORD_WORDS: usize = 3;
+pub const TOKEN_RECORD_WORDS: usize = 4;
 pub const CALL_RECORD_WORDS: usize = 4;
 pub const WIRE_RECORD_WORDS: usize = 2;
 
 // Words that are to be lent, at least.
-pub const TABLE_WORDS: usize = 12_288;
+pub const TABLE_WORDS: usize = 16_384;
 pub const WORK_WORDS: usize = 16_384;
 pub const CALL_WORDS: usize = 1_536;
 pub const WIRE_WORDS: usize = 2_048;

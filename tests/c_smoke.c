@@ -4,7 +4,7 @@
 #include <stdio.h>
 #include <string.h>
 
-static const char TEXT[] = "out = scale(px, by = 0.50);";
+static const char TEXT[] = "out = scale(px, # by half\n  by = 0.50);";
 
 static const char LIST[] =
     "fragment external(shape: extent[]) -> (output: tensor) "
@@ -35,10 +35,10 @@ static int answers(nnef_answer a, uint32_t code, uint32_t text, uint32_t positio
     return a.code == code && a.text == text && a.position == position && a.detail == detail;
 }
 
-static int holds(size_t token, uint32_t kind, uint32_t start, uint32_t end)
+static int holds(size_t token, uint32_t kind, uint32_t start, uint32_t end, uint32_t line)
 {
     const uint32_t *record = table + NNEF_TOKEN_RECORD_WORDS * token;
-    return record[0] == kind && record[1] == start && record[2] == end;
+    return record[0] == kind && record[1] == start && record[2] == end && record[3] == line;
 }
 
 /* Each buffer of length 0 may be NULL: an empty text is read, a table or a work area is too short, an output gets nothing. */
@@ -113,11 +113,11 @@ static int finds_places(void)
 int main(void)
 {
     int good = answers(tokens_of(TEXT, NNEF_TABLE_WORDS), NNEF_ACCEPTED, 0, 0, 11)
-        && holds(0, NNEF_NAME, 0, 3)
-        && holds(1, NNEF_SYNTACTIC, 4, 5)
-        && holds(8, NNEF_REAL, 21, 25)
-        && holds(10, NNEF_SYNTACTIC, 26, 27)
-        && holds(11, 0, 0, 0)
+        && holds(0, NNEF_NAME, 0, 3, 1)
+        && holds(1, NNEF_SYNTACTIC, 4, 5, 1)
+        && holds(8, NNEF_REAL, 33, 37, 2)
+        && holds(10, NNEF_SYNTACTIC, 38, 39, 2)
+        && holds(11, 0, 0, 0, 0)
         && answers(tokens_of("", NNEF_TABLE_WORDS), NNEF_ACCEPTED, 0, 0, 0)
         && answers(tokens_of("a = 1.", NNEF_TABLE_WORDS), NNEF_NUMBER_MISSPELT, 1, 4, 0)
         && answers(tokens_of(TEXT, NNEF_TABLE_WORDS - 1), NNEF_LENT_TOO_SHORT, 0, 0, 0)

@@ -344,7 +344,7 @@ fn returns(pair: &Pair, room: [usize; 3], outcome: &Outcome) -> bool {
 
 /// How many tokens a text has, if it has tokens alone and not too many.
 fn token_count(text: &[u8]) -> Option<usize> {
-    match nnef_reference::tokens(text, &mut [0; 12_288]).numbers() {
+    match nnef_reference::tokens(text, &mut [0; 16_384]).numbers() {
         [0, _, _, count] => Some(count as usize),
         _ => None,
     }

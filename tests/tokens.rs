@@ -72,7 +72,7 @@ fn run_written() -> usize {
 fn is_as_written(outcome: &Outcome, case: &Case) -> bool {
     let records = case.records.concat();
     let written = if case.answer[0] == 0 {
-        3 * case.answer[3] as usize
+        4 * case.answer[3] as usize
     } else {
         0
     };
@@ -83,7 +83,23 @@ fn is_as_written(outcome: &Outcome, case: &Case) -> bool {
         && outcome.words[GUARD + written..] == before[GUARD + written..]
 }
 
-/// Compares both sides on random cases and gives the number of differences.
+/// Whether the line of each record is one more than the number of bytes 10 before
+/// its start.
+fn is_lined(outcome: &Outcome, text: &[u8]) -> bool {
+    let mut line = 1;
+    let lines = text.iter().map(|&byte| {
+        let here = line;
+        line += u32::from(byte == b'\n');
+        here
+    });
+    let lines: Vec<u32> = lines.collect();
+    let [code, _, _, count] = outcome.answer;
+    let mut records = outcome.words[GUARD..].chunks_exact(4).take(count as usize);
+    code != 0 || records.all(|record| record[3] == lines[record[1] as usize])
+}
+
+/// Compares both sides on random cases and gives the number of differences, a line
+/// that is not the number of line feeds before its token among them.
 fn run_random(options: &Options) -> usize {
     let mut by_code = [0usize; 9];
     let mut different = 0;
@@ -97,7 +113,7 @@ fn run_random(options: &Options) -> usize {
         let library = outcome(library_tokens, &text, table_words);
         let reference = outcome(reference_tokens, &text, table_words);
         by_code[reference.answer[0] as usize] += 1;
-        if library != reference {
+        if library != reference || !is_lined(&library, &text) {
             different += 1;
             if different <= PRINTED {
                 println!(
@@ -115,11 +131,12 @@ fn run_random(options: &Options) -> usize {
 fn table_words(rng: &mut Rng) -> usize {
     match rng.below(100) {
         0 => 0,
-        1 => 12_287,
-        2 => rng.below(12_288),
-        3..=19 => 12_300,
-        20..=29 => rng.between(12_289, 14_000),
-        _ => 12_288,
+        1 => 16_383,
+        2 => rng.below(16_384),
+        3 => 12_288,
+        4..=19 => 16_400,
+        20..=29 => rng.between(16_385, 18_000),
+        _ => 16_384,
     }
 }
 

@@ -8,7 +8,7 @@ use crate::texts::{name_at, Texts};
 use crate::tree::Value;
 use sluicegnome::{Call, Kind, Token};
 
-/// Each token: its place, kind and spelling.
+/// Each token: its line and column, kind and spelling.
 pub fn tokens(report: &mut Report, texts: &Texts) {
     let text = &texts.subject().bytes;
     let tokens = match sluicegnome::tokens(text) {
@@ -17,14 +17,15 @@ pub fn tokens(report: &mut Report, texts: &Texts) {
     };
     let spelling = |token: &Token| escaped(&text[token.start..token.end]);
     let line = |token: &Token| {
-        let at = place(text, token.start);
-        format!("{}:{} {} {}\n", at.line, at.column, kind_name(token.kind), spelling(token))
+        let column = place(text, token.start).column;
+        format!("{}:{column} {} {}\n", token.line, kind_name(token.kind), spelling(token))
     };
     let object = |token: &Token| {
         Json::Object(vec![
             ("kind", Json::text(kind_name(token.kind))),
             ("start", Json::Number(token.start)),
             ("end", Json::Number(token.end)),
+            ("line", Json::Number(token.line)),
             ("spelling", Json::text(spelling(token))),
         ])
     };

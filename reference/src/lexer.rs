@@ -87,13 +87,17 @@ pub fn length(text: &[u8]) -> Result<(), Fault> {
 pub fn lex(text: &[u8]) -> Result<Vec<Token>, Fault> {
     let mut tokens = Vec::with_capacity(text.len().min(limits::TOKENS) + 1);
     let mut at = 0;
+    let mut line = 1;
     loop {
         let Some(&byte) = text.get(at) else {
-            tokens.push(token(Symbol::End, at, at));
+            tokens.push(token(Symbol::End, at, at, line));
             return Ok(tokens);
         };
         let (symbol, end) = match class(byte) {
+            // Every line feed is a blank: a comment ends before its own, and no
+            // token holds one.
             Class::Blank => {
+                line += u16::from(byte == b'\n');
                 at += 1;
                 continue;
             }
@@ -111,15 +115,16 @@ pub fn lex(text: &[u8]) -> Result<Vec<Token>, Fault> {
         if tokens.len() == limits::TOKENS {
             return fault(codes::TOO_MANY_TOKENS, at);
         }
-        tokens.push(token(symbol, at, end));
+        tokens.push(token(symbol, at, end, line));
         at = end;
     }
 }
 
-fn token(symbol: Symbol, start: usize, end: usize) -> Token {
+fn token(symbol: Symbol, start: usize, end: usize, line: u16) -> Token {
     Token {
         start: start as u16,
         end: end as u16,
+        line,
         symbol,
     }
 }

@@ -72,8 +72,8 @@ impl Answer {
     }
 }
 
-/// Splits a text into tokens. Each token takes three words of the table: its
-/// kind, its start and its end after the last byte. The table is changed only
+/// Splits a text into tokens. Each token takes four words of the table: its kind,
+/// its start, its end after the last byte and its line. The table is changed only
 /// when the text is accepted, and then only over the records.
 pub fn tokens(text: &[u8], table: &mut [u32]) -> Answer {
     if table.len() < limits::TABLE_WORDS {
@@ -84,10 +84,11 @@ pub fn tokens(text: &[u8], table: &mut [u32]) -> Answer {
         Ok(tokens) => {
             // The last one is the text's end.
             let count = tokens.len() - 1;
-            for (record, token) in table.chunks_exact_mut(3).zip(&tokens[..count]) {
+            for (record, token) in table.chunks_exact_mut(4).zip(&tokens[..count]) {
                 record[0] = token.symbol.kind();
                 record[1] = u32::from(token.start);
                 record[2] = u32::from(token.end);
+                record[3] = u32::from(token.line);
             }
             Answer::accepted(count)
         }

@@ -38,7 +38,7 @@ pub const ASSIGNED: usize = 1_024;
 pub const USED: usize = 1_024;
 
 /// Words that a lent token table has at least.
-pub const TABLE_WORDS: usize = 3 * TOKENS;
+pub const TABLE_WORDS: usize = 4 * TOKENS;
 /// Words that a lent work area has at least.
 pub const WORK_WORDS: usize = 16_384;
 /// Words that a lent call table has at least.

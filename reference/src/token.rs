@@ -1,12 +1,14 @@
 //! Tokens: what they are and where they stand.
 
-/// A token: the bytes of its text from `start` up to but not including `end`.
-/// A text's places are at most 16,384. It is stored as one word of eight bytes.
+/// A token: the bytes of its text from `start` up to but not including `end`, and
+/// the line on which it starts, from 1. A text's places are at most 16,384. It is
+/// stored as one word of eight bytes.
 #[derive(Clone, Copy, Debug, PartialEq, Eq)]
 #[repr(align(8))]
 pub struct Token {
     pub start: u16,
     pub end: u16,
+    pub line: u16,
     pub symbol: Symbol,
 }
 

@@ -54,6 +54,9 @@ pub mod limits {
 /// let kinds: Vec<Kind> = tokens.iter().map(|token| token.kind).collect();
 /// assert_eq!(kinds, [Kind::Name, Kind::Operator, Kind::Real]);
 ///
+/// let lines = sluicegnome::tokens(b"a # a comment\nb c\n\nd").unwrap();
+/// assert_eq!(lines.iter().map(|token| token.line).collect::<Vec<_>>(), [1, 2, 2, 4]);
+///
 /// let refusal = sluicegnome::tokens(b"a = 1.").unwrap_err();
 /// assert_eq!((refusal.code, refusal.position), (Code::NumberMisspelt, 4));
 /// ```

@@ -21,12 +21,14 @@ pub enum Kind {
     Syntactic = raw::SYNTACTIC,
 }
 
-/// A token: the bytes of the text from `start` up to but not including `end`.
+/// A token: the bytes of the text from `start` up to but not including `end`, and its line, from 1.
 #[derive(Clone, Copy, Debug, PartialEq, Eq, Hash)]
 pub struct Token {
     pub kind: Kind,
     pub start: usize,
     pub end: usize,
+    /// One more than the number of line feeds before it. A token has none in it.
+    pub line: usize,
 }
 
 /// A call of a document.
@@ -76,7 +78,12 @@ impl Kind {
 /// The first records of a token table.
 pub(crate) fn tokens(table: &[u32], count: usize) -> Vec<Token> {
     let records = table.chunks_exact(raw::TOKEN_RECORD_WORDS).take(count);
-    let token = |record: &[u32]| Token { kind: Kind::from_number(record[0]), start: record[1] as usize, end: record[2] as usize };
+    let token = |record: &[u32]| Token {
+        kind: Kind::from_number(record[0]),
+        start: record[1] as usize,
+        end: record[2] as usize,
+        line: record[3] as usize,
+    };
     records.map(token).collect()
 }
 

@@ -14,7 +14,7 @@ use borrow.Author.Tests.{le-leb, lt-leb, leb-true}
 use Rattle.lexis.specs.Sizes.{maxText, maxTokens, tableWords, workWords}
 use Rattle.lexis.specs.Code as Code
 use Rattle.lexis.specs.Lexer.{Token, Lexed, accepted, refused, lex}
-use Rattle.lexis.specs.Answer.{answer, records, answerOf, counted, tokensAnswer, tokensTable}
+use Rattle.lexis.specs.Answer.{answer, tokenRecords, answerOf, counted, tokensAnswer, tokensTable}
 use Rattle.lexis.specs.declared.Answer.{Answer}
 use Rattle.lexis.proofs.Theorems.{coded}
 use Rattle.syntax.specs.Tree.{Header}
@@ -44,7 +44,7 @@ module _ (text table : List ℕ) where
   tokens-long r l = rw (le-leb tableWords (length table) r, lt-leb (length text) maxText l)
 
   pub tokens-accepts : (ts : List Token) → tableWords ≤ length table → length text ≤ maxText → lex text ≡ accepted ts
-      → (tokensAnswer text table ≡ answer Code.accepted 0 0 (length ts)) × (tokensTable text table ≡ sets table 0 (records ts))
+      → (tokensAnswer text table ≡ answer Code.accepted 0 0 (length ts)) × (tokensTable text table ≡ sets table 0 (tokenRecords text ts))
   unfolding tokensAnswer tokensTable
   tokens-accepts ts r l e = (
     rw (le-leb tableWords (length table) r, le-leb (length text) maxText l, e) (ap (answer Code.accepted 0 0) (zero-add (length ts))),

@@ -12,7 +12,8 @@ use lib.Seq.{sets}
 use Rattle.lexis.specs.Sizes.{maxText, maxTokens, maxBrackets, tokenWords, tableWords, workWords}
 use Rattle.lexis.specs.Code as Code
 use Rattle.lexis.specs.Lexer.{Token, accepted, refused, lex, Placed, Longest, Kinded}
-use Rattle.lexis.specs.Answer.{answer, records, tokensAnswer, tokensTable}
+use Rattle.lexis.specs.Line.{lineOf, NoFeed}
+use Rattle.lexis.specs.Answer.{answer, tokenRecords, tokensAnswer, tokensTable, startIn, lineIn}
 use Rattle.lexis.proofs.Theorems as Lexis
 use Rattle.syntax.specs.Tree.{Header, Call, Document}
 use Rattle.syntax.specs.Grammar.{IsList, IsDocument}
@@ -100,7 +101,7 @@ tokens-long = Answers.tokens-long
 
 -- the tokens that the text has are counted, and their records are the table's first words
 pub tokens-accepts : (text table : List ℕ) (ts : List Token) → tableWords ≤ length table → length text ≤ maxText → lex text ≡ accepted ts
-    → (tokensAnswer text table ≡ answer Code.accepted 0 0 (length ts)) × (tokensTable text table ≡ sets table 0 (records ts))
+    → (tokensAnswer text table ≡ answer Code.accepted 0 0 (length ts)) × (tokensTable text table ≡ sets table 0 (tokenRecords text ts))
 tokens-accepts = Answers.tokens-accepts
 
 -- code 0 is answered to no other text
@@ -120,6 +121,22 @@ tokens-keeps-beyond = Lexis.kept-beyond
 -- tokens stand in the text one after the other, with only white space and comments between them; each is the longest; they are of the eight kinds
 pub tokens-placed : (text : List ℕ) (ts : List Token) → lex text ≡ accepted ts → Placed text 0 ts × (Longest text ts × Kinded ts)
 tokens-placed text ts e = (Lexis.placed text ts e, (Lexis.longest-match text ts e, Lexis.kinded text ts e))
+
+-- the line of each is one more than the number of bytes 10 before its start
+pub tokens-line : (text table : List ℕ) → tokensAnswer text table .code ≡ Code.accepted → (i : ℕ) → i < tokensAnswer text table .detail
+    → lineIn (tokensTable text table) i ≡ lineOf text (startIn (tokensTable text table) i)
+tokens-line = Lexis.line
+
+-- lines never fall
+pub tokens-lines-rise : (text table : List ℕ) → tokensAnswer text table .code ≡ Code.accepted → (i j : ℕ) → i ≤ j → j < tokensAnswer text table .detail
+    → lineIn (tokensTable text table) i ≤ lineIn (tokensTable text table) j
+tokens-lines-rise = Lexis.lines-rise
+
+-- two tokens have the same line exactly when no byte 10 stands between their starts
+pub tokens-same-line : (text table : List ℕ) → tokensAnswer text table .code ≡ Code.accepted → (i j : ℕ) → i ≤ j → j < tokensAnswer text table .detail
+    → let after = tokensTable text table in
+    (lineIn after i ≡ lineIn after j) ↔ NoFeed text (startIn after i) (startIn after j)
+tokens-same-line = Lexis.same-line
 
 -- ---- declarations
 

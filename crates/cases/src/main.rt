@@ -1,6 +1,7 @@
 // Runs cases and prints what each answers. A case is a line of standard input: a letter, a blank, and a text. T: the tokens of the text,
-// with the words of its table. L, D: the bytes and the syntax of an operation list, or of a document, with the number of tokens. C: `check` of
-// a list and a document, with ` | ` between them. N: `check` of a document that is made here, with so many calls.
+// with the words of its table. M: the same, with a line feed for each backslash. L, D: the bytes and the syntax of an operation list, or of
+// a document, with the number of tokens. C: `check` of a list and a document, with ` | ` between them. N: `check` of a document that is made
+// here, with so many calls.
 use lexis::Counted;
 use lexis::code::Code;
 use lexis::limits::Limits;
@@ -62,6 +63,34 @@ fn tokens_case(text: &[u8]) {
             print_words(&table, size(a.detail) * Limits::TOKEN_WORDS);
         }
     }
+}
+
+// A line feed for a backslash.
+fn broken(b: u8) -> u8 {
+    if b == b'\\' {
+        return b'\n';
+    }
+    b
+}
+
+// Stores a text with a line feed for each backslash, as far as there is room, and gives its length.
+fn put_lines(out: &mut [u8], text: &[u8]) -> usize
+    ensures { λ r. ⌜ r ≤ length (now (out .entry)) ⌝ }
+{
+    let n = put(&mut *out, 0, text);
+    let mut i = 0;
+    while i < n {
+        out[i] = broken(out[i]);
+        i += 1;
+    }
+    n
+}
+
+// The tokens of a text of several lines.
+fn lines_case(text: &[u8]) {
+    let mut lines = [0u8; Limits::TEXT];
+    let n = put_lines(&mut lines, text);
+    tokens_case(&lines[0..n]);
 }
 
 // The answer of reading a text: how many tokens, or the first fault.
@@ -201,6 +230,9 @@ fn case(line: &[u8]) {
     let text = &line[2..];
     if which == b'T' {
         tokens_case(text);
+    }
+    if which == b'M' {
+        lines_case(text);
     }
     if which == b'L' {
         syntax_case(text, Syntax::List);

@@ -5,13 +5,12 @@ use mathlib.Core.List.{List, [], _∷_}
 use Prim.Native.Nat.{ℕ, suc, _+_, _*_, _≤_, min}
 use native.Mathlib.Numerals.{add-one, add-two}
 use native.Mathlib.Omega.{arith}
-use lib.ListN.{length, set, length-set}
-use lib.Seq.{sets, set-comm}
+use lib.ListN.{length, drop, getD, set, length-set}
+use lib.Seq.{sets, set-comm, getD-drop, drop-drop}
 use Rattle.lexis.specs.Sizes.{maxTokens, recordWords, firstMark, workWords}
 use Rattle.lexis.specs.Lexer.{Token}
 use Rattle.lexis.specs.Symbol.{symOf, symbols}
-use Rattle.lexis.specs.Answer.{records}
-use Rattle.lexis.specs.Work.{marks, recordAt, markedAt, areaWords}
+use Rattle.lexis.specs.Work.{records, marks, recordAt, markedAt, areaWords}
 
 -- the record and the mark of the token t at place n
 abbrev pub layOne : Bool → ℕ → List ℕ → Token → List ℕ
@@ -32,6 +31,15 @@ pub records-length : (ts : List Token) → length (records ts) ≡ length ts * r
 unfolding records
 records-length [] = refl
 records-length (t ∷ ts) = omega (arith, records-length ts)
+
+-- a word of the table, read in the tail that starts at the record
+pub word-of : (table : List ℕ) (i k : ℕ) (l : List ℕ) → drop (i * recordWords) table ≡ l → getD table (i * recordWords + k) 0 ≡ getD l k 0
+word-of table i k l e = sym (getD-drop (i * recordWords) table k 0) ∙ ap (λ (x : List ℕ). getD x k 0) e
+
+pub next-tail : (table : List ℕ) (i a b c : ℕ) (l : List ℕ) → drop (i * recordWords) table ≡ a ∷ (b ∷ (c ∷ l)) → drop ((i + 1) * recordWords) table ≡ l
+next-tail table i a b c l e =
+    let q : (i + 1) * recordWords ≡ i * recordWords + recordWords = omega arith in
+    ap (λ (n : ℕ). drop n table) q ∙ (sym (drop-drop recordWords (i * recordWords) table) ∙ ap (λ (x : List ℕ). drop recordWords x) e)
 
 -- the records of t and ts, that of t stored first
 records-more : (area : List ℕ) (n : ℕ) (t : Token) (ts : List Token)

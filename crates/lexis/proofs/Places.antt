@@ -4,7 +4,7 @@
 use mathlib.Core.Path.{_≡_, refl, sym, ap, _∙_, subst}
 use mathlib.Core.Bool.{Bool, true, false, cond}
 use mathlib.Core.List.{List, [], _∷_}
-use Prim.Native.Nat.{ℕ, zero, suc, pred, _+_, _≤_, _<_}
+use Prim.Native.Nat.{ℕ, zero, suc, pred, _+_, _≤_, _<_, zero-le}
 use native.Mathlib.Nat.{le-of-suc-le-suc}
 use native.Mathlib.Omega.{arith}
 use lib.Dec.{ltb}
@@ -15,7 +15,7 @@ use Rattle.lexis.specs.Sizes.{maxTokens}
 use Rattle.lexis.specs.Kind.{IsKind}
 use Rattle.lexis.specs.Bytes.{gapFrom, gapLen}
 use Rattle.lexis.specs.Lexeme.{lexeme}
-use Rattle.lexis.specs.Lexer.{Token, Lexed, accepted, refused, prepend, admit, lexFrom, Placed, Kinded}
+use Rattle.lexis.specs.Lexer.{Token, Lexed, accepted, refused, prepend, admit, lexFrom, lex, Placed, Kinded}
 use Rattle.lexis.specs.Lexer.Placed.{none, next}
 use Rattle.lexis.specs.declared.token.Lexeme.{Lexeme}
 use Rattle.lexis.specs.declared.token.Lexeme.the-variants as L
@@ -117,3 +117,7 @@ fine text zero n at (x ∷ s) e h few m =
           (moved text (suc at + g) (at + gapLen (drop at text)) n (lexFrom g n (suc at) s) (omega arith)
           (fine text g n (suc at) s (rest-is text at x s e) (le-of-suc-le-suc l) few (omega (arith, inside text at x s e))))
     ] refl (gap-le false (x ∷ s)))
+
+-- of a whole text
+pub all-fine : (text : List ℕ) (l : Lexed) → lex text ≡ l → Fine text 0 0 l
+all-fine text l e = subst (Fine text 0 0) e (fine text 0 0 0 text refl zero-le zero-le zero-le)

@@ -1,24 +1,25 @@
 -- What holds of the lexer, for every text and every table. Each claim follows in a few lines from the files below.
--- Relies on `Places` and `Longest` for the tokens, `Values` for numbers, `Answers` for the table.
-use mathlib.Core.Path.{_≡_, refl, subst}
+-- Relies on `Places` and `Longest` for the tokens, `Rows` for their lines, `Values` for numbers, `Answers` for the table.
+use mathlib.Core.Path.{_≡_}
 use mathlib.Core.Bool.{Bool}
+use mathlib.Core.Logic.{_↔_}
 use mathlib.Core.List.{List}
-use Prim.Native.Nat.{ℕ, zero-le, _*_, _≤_, _<_}
+use Prim.Native.Nat.{ℕ, _*_, _≤_, _<_}
 use native.Mathlib.Omega.{arith}
 use lib.ListN.{length, getD}
 use Rattle.lexis.specs.Sizes.{maxTokens, tokenWords}
+use Rattle.lexis.specs.Code as Code
 use Rattle.lexis.specs.Bytes.{spanLen, IsRun}
 use Rattle.lexis.specs.Number.{partsOf, reducedOf, IsReduced}
-use Rattle.lexis.specs.Lexer.{Token, Lexed, accepted, refused, lex, Placed, Longest, Kinded}
-use Rattle.lexis.specs.Answer.{tokensAnswer, tokensTable}
-use Rattle.lexis.proofs.Places.{Fine, fine}
+use Rattle.lexis.specs.Lexer.{Token, accepted, refused, lex, Placed, Longest, Kinded}
+use Rattle.lexis.specs.Line.{lineOf, NoFeed, OneLine}
+use Rattle.lexis.specs.Answer.{tokensAnswer, tokensTable, startIn, lineIn}
+use Rattle.lexis.proofs.Places.{all-fine}
 use Rattle.lexis.proofs.Longest.{longest}
 use Rattle.lexis.proofs.Positions.{is-run}
 use Rattle.lexis.proofs.Values.{is-reduced}
 use Rattle.lexis.proofs.Answers.{kept, beyond}
-
-all-fine : (text : List ℕ) (l : Lexed) → lex text ≡ l → Fine text 0 0 l
-all-fine text l e = subst (Fine text 0 0) e (fine text 0 0 0 text refl zero-le zero-le zero-le)
+use Rattle.lexis.proofs.Rows.{row-line, rows-rise, rows-same, flat-tokens}
 
 -- ---- tokens
 
@@ -42,6 +43,28 @@ few text ts e = let f = all-fine text (accepted ts) e in omega (arith, f .1 .0)
 -- their kinds are 1 to 8
 pub kinded : (text : List ℕ) (ts : List Token) → lex text ≡ accepted ts → Kinded ts
 kinded text ts e = all-fine text (accepted ts) e .1 .1
+
+-- ---- lines
+
+-- each token has one more than the number of bytes 10 before its start
+pub line : (text table : List ℕ) → tokensAnswer text table .code ≡ Code.accepted → (i : ℕ) → i < tokensAnswer text table .detail
+    → lineIn (tokensTable text table) i ≡ lineOf text (startIn (tokensTable text table) i)
+line text table a i h = row-line text table a i h
+
+-- the lines never fall
+pub lines-rise : (text table : List ℕ) → tokensAnswer text table .code ≡ Code.accepted → (i j : ℕ) → i ≤ j → j < tokensAnswer text table .detail
+    → lineIn (tokensTable text table) i ≤ lineIn (tokensTable text table) j
+lines-rise text table a i j l h = rows-rise text table a i j l h
+
+-- two tokens have the same line exactly when no byte 10 stands between their starts
+pub same-line : (text table : List ℕ) → tokensAnswer text table .code ≡ Code.accepted → (i j : ℕ) → i ≤ j → j < tokensAnswer text table .detail
+    → let after = tokensTable text table in
+    (lineIn after i ≡ lineIn after j) ↔ NoFeed text (startIn after i) (startIn after j)
+same-line text table a i j l h = rows-same text table a i j l h
+
+-- a token holds no byte 10: it ends on the line on which it starts
+pub one-line : (text : List ℕ) (ts : List Token) → lex text ≡ accepted ts → OneLine text ts
+one-line text ts e = flat-tokens text ts (placed text ts e)
 
 -- ---- refusals
 

@@ -4,6 +4,7 @@ pub mod code;
 mod cursor;
 mod exponent;
 pub mod kind;
+mod lent;
 pub mod limits;
 mod mantissa;
 pub mod number;
@@ -18,10 +19,11 @@ use cursor::Cursor;
 use cursor::Record;
 use cursor::Step;
 use kind::Kind;
+use lent::fill;
+use lent::put_words;
 use limits::Limits;
 use symbol::symbol_of;
 ghost use mathlib.Core.Path.{_≡_};
-ghost use lib.Seq.{paste};
 ghost use mathlib.Core.Bool.{true, false};
 ghost use Prim.Native.Nat.{_+_, _-_, _*_, _<_, _≤_, min};
 ghost use lib.ListN.{length, take, drop};
@@ -29,9 +31,9 @@ ghost use Rattle.lexis.specs.Answer.{tokensAnswer, tokensTable, counted,
 ghost use Rattle.lexis.specs.Bytes.{classTable};
 ghost use Rattle.lexis.specs.Kind.{IsKind};
 ghost use Rattle.lexis.specs.Lexer.{lex};
-ghost use Rattle.lexis.specs.Sizes.{maxText, maxTokens, recordWords, tokenWords, tableWords, firstMark};
+ghost use Rattle.lexis.specs.Sizes.{maxText, maxTokens, recordWords, tableWords, firstMark};
 ghost use Rattle.lexis.specs.Symbol.{symbolOf};
-ghost use Rattle.lexis.specs.Work.{Recorded, Room, areaWords, recordAt, markedAt};
+ghost use Rattle.lexis.specs.Work.{Recorded, Room, Found, areaWords, recordAt, markedAt};
 
 // The four numbers of an answer.
 #[repr(C)]
@@ -49,6 +51,8 @@ pub enum Counted {
 }
 
 // The bytes of a text that takes a small work area, which is cleared in less time.
+const LINE: usize = 32;
+
 const TINY: usize = 128;
 
 const SHORT: usize = 512;
@@ -77,16 +81,8 @@ pub fn tokens(text: &[u8], table: &mut [u32]) -> Answer
             detail: 0,
         };
     }
-    if text.len() <= TINY {
-        return tokens_tiny(text, table);
-    }
-    if text.len() <= SHORT {
-        return tokens_short(text, table);
-    }
-    if text.len() <= MIDDLE {
-        return tokens_middle(text, table);
-    }
-    tokens_long(text, table)
+    let classes = CLASSES;
+    tokens_within(&classes, text, table)
 }
 
 // The records of a text of at most 16384 bytes, written in front of a work area as they are found, and where it is to be `marked` the
@@ -140,10 +136,13 @@ fn put_record(work: &mut [u32], i: usize, r: Record)
     requires { ⌜ (r .start ≤ maxText) × (r .end ≤ maxText) ⌝ }
     ensures { λ _. ⌜ now (work .exit) ≡ recordAt (now (work .entry)) (i * recordWords) (r .kind) (r .start) (r .end) ⌝ }
 {
-    let j = i * Limits::RECORD_WORDS;
-    work[j] = wide(r.kind);
-    work[j + 1] = narrow(r.start);
-    work[j + 2] = narrow(r.end);
+    put_words(
+        work,
+        i * Limits::RECORD_WORDS,
+        wide(r.kind),
+        narrow(r.start),
+        narrow(r.end),
+    );
 }
 
 // The terminal s of the token at place `i` behind the records, where the work area is to be marked.
@@ -172,59 +171,110 @@ fn mark(text: &[u8], r: Record, work: &mut [u32], i: usize, marked: bool)
     work[Limits::MARKS + i] = symbol_of(text, r.kind, r.start, r.end);
 }
 
-// Work areas by the size of the text: a work area is cleared when it is made, so a short text gets a short one.
-fn tokens_tiny(text: &[u8], table: &mut [u32]) -> Answer
+// The answer of a text within its limit: a work area is cleared when it is made, so a short text gets a short one.
+fn tokens_within(classes: &[u8; 256], text: &[u8], table: &mut [u32]) -> Answer
+    requires { ⌜ now classes ≡ classTable ⌝ }
+    requires { ⌜ length (now text) ≤ maxText ⌝ }
+    requires { ⌜ tableWords ≤ length (now table) ⌝ }
+    ensures { λ r. ⌜ r ≡ answerOf (counted (lex (now (text .entry)))) ⌝ }
+    ensures { λ _. ⌜ now (table .exit) ≡ recorded (now (text .entry)) (now (table .entry)) (lex (now (text .entry))) ⌝ }
+{
+    if text.len() <= LINE {
+        return tokens_line(classes, text, table);
+    }
+    if text.len() <= TINY {
+        return tokens_tiny(classes, text, table);
+    }
+    if text.len() <= SHORT {
+        return tokens_short(classes, text, table);
+    }
+    if text.len() <= MIDDLE {
+        return tokens_middle(classes, text, table);
+    }
+    tokens_long(classes, text, table)
+}
+
+fn tokens_line(classes: &[u8; 256], text: &[u8], table: &mut [u32]) -> Answer
+    requires { ⌜ now classes ≡ classTable ⌝ }
+    requires { ⌜ length (now text) ≤ 32 ⌝ }
+    requires { ⌜ tableWords ≤ length (now table) ⌝ }
+    ensures { λ r. ⌜ r ≡ answerOf (counted (lex (now (text .entry)))) ⌝ }
+    ensures { λ _. ⌜ now (table .exit) ≡ recorded (now (text .entry)) (now (table .entry)) (lex (now (text .entry))) ⌝ }
+{
+    let mut line = [0u32; LINE * Limits::RECORD_WORDS];
+    let found = lexed(classes, text, &mut line);
+    listed(text, found, &line, table)
+}
+
+fn tokens_tiny(classes: &[u8; 256], text: &[u8], table: &mut [u32]) -> Answer
+    requires { ⌜ now classes ≡ classTable ⌝ }
     requires { ⌜ length (now text) ≤ 128 ⌝ }
     requires { ⌜ tableWords ≤ length (now table) ⌝ }
     ensures { λ r. ⌜ r ≡ answerOf (counted (lex (now (text .entry)))) ⌝ }
-    ensures { λ _. ⌜ now (table .exit) ≡ recorded (now (table .entry)) (lex (now (text .entry))) ⌝ }
+    ensures { λ _. ⌜ now (table .exit) ≡ recorded (now (text .entry)) (now (table .entry)) (lex (now (text .entry))) ⌝ }
 {
     let mut tiny = [0u32; TINY * Limits::RECORD_WORDS];
-    tokens_by(text, &mut tiny, table)
+    let found = lexed(classes, text, &mut tiny);
+    listed(text, found, &tiny, table)
 }
 
-fn tokens_short(text: &[u8], table: &mut [u32]) -> Answer
+fn tokens_short(classes: &[u8; 256], text: &[u8], table: &mut [u32]) -> Answer
+    requires { ⌜ now classes ≡ classTable ⌝ }
     requires { ⌜ length (now text) ≤ 512 ⌝ }
     requires { ⌜ tableWords ≤ length (now table) ⌝ }
     ensures { λ r. ⌜ r ≡ answerOf (counted (lex (now (text .entry)))) ⌝ }
-    ensures { λ _. ⌜ now (table .exit) ≡ recorded (now (table .entry)) (lex (now (text .entry))) ⌝ }
+    ensures { λ _. ⌜ now (table .exit) ≡ recorded (now (text .entry)) (now (table .entry)) (lex (now (text .entry))) ⌝ }
 {
     let mut short = [0u32; SHORT * Limits::RECORD_WORDS];
-    tokens_by(text, &mut short, table)
+    let found = lexed(classes, text, &mut short);
+    listed(text, found, &short, table)
 }
 
-fn tokens_middle(text: &[u8], table: &mut [u32]) -> Answer
+fn tokens_middle(classes: &[u8; 256], text: &[u8], table: &mut [u32]) -> Answer
+    requires { ⌜ now classes ≡ classTable ⌝ }
     requires { ⌜ length (now text) ≤ 2048 ⌝ }
     requires { ⌜ tableWords ≤ length (now table) ⌝ }
     ensures { λ r. ⌜ r ≡ answerOf (counted (lex (now (text .entry)))) ⌝ }
-    ensures { λ _. ⌜ now (table .exit) ≡ recorded (now (table .entry)) (lex (now (text .entry))) ⌝ }
+    ensures { λ _. ⌜ now (table .exit) ≡ recorded (now (text .entry)) (now (table .entry)) (lex (now (text .entry))) ⌝ }
 {
     let mut middle = [0u32; MIDDLE * Limits::RECORD_WORDS];
-    tokens_by(text, &mut middle, table)
+    let found = lexed(classes, text, &mut middle);
+    listed(text, found, &middle, table)
 }
 
-fn tokens_long(text: &[u8], table: &mut [u32]) -> Answer
+fn tokens_long(classes: &[u8; 256], text: &[u8], table: &mut [u32]) -> Answer
+    requires { ⌜ now classes ≡ classTable ⌝ }
     requires { ⌜ length (now text) ≤ maxText ⌝ }
     requires { ⌜ tableWords ≤ length (now table) ⌝ }
     ensures { λ r. ⌜ r ≡ answerOf (counted (lex (now (text .entry)))) ⌝ }
-    ensures { λ _. ⌜ now (table .exit) ≡ recorded (now (table .entry)) (lex (now (text .entry))) ⌝ }
+    ensures { λ _. ⌜ now (table .exit) ≡ recorded (now (text .entry)) (now (table .entry)) (lex (now (text .entry))) ⌝ }
 {
     let mut long = [0u32; Limits::MARKS];
-    tokens_by(text, &mut long, table)
+    let found = lexed(classes, text, &mut long);
+    listed(text, found, &long, table)
 }
 
-// The answer of a text by way of a work area, and its records in the table where there is no fault.
-fn tokens_by(text: &[u8], work: &mut [u32], table: &mut [u32]) -> Answer
+// What the lexer finds, with the records alone in a work area.
+fn lexed(classes: &[u8; 256], text: &[u8], work: &mut [u32]) -> Counted
+    requires { ⌜ now classes ≡ classTable ⌝ }
     requires { ⌜ length (now text) ≤ maxText ⌝ }
     requires { ⌜ recordWords * min (length (now text)) maxTokens ≤ length (now work) ⌝ }
+    ensures { λ r. ⌜ Found (lex (now (text .entry))) r (now (work .exit)) ⌝ }
+{
+    lex_into(classes, text, work, false)
+}
+
+// The answer to what the lexer found, and the records with their lines in the table where there is no fault.
+fn listed(text: &[u8], found: Counted, work: &[u32], table: &mut [u32]) -> Answer
+    requires { ⌜ length (now text) ≤ maxText ⌝ }
+    requires { ⌜ Found (lex (now text)) found (now work) ⌝ }
     requires { ⌜ tableWords ≤ length (now table) ⌝ }
     ensures { λ r. ⌜ r ≡ answerOf (counted (lex (now (text .entry)))) ⌝ }
-    ensures { λ _. ⌜ now (table .exit) ≡ recorded (now (table .entry)) (lex (now (text .entry))) ⌝ }
+    ensures { λ _. ⌜ now (table .exit) ≡ recorded (now (text .entry)) (now (table .entry)) (lex (now (text .entry))) ⌝ }
 {
-    let classes = CLASSES;
-    match lex_into(&classes, text, &mut *work, false) {
+    match found {
         Counted::Tokens(n) => {
-            copy(work, table, words_of(n));
+            fill(text, work, table, n as usize);
             Answer {
                 code: Code::ACCEPTED,
                 text: 0,
@@ -239,28 +289,6 @@ fn tokens_by(text: &[u8], work: &mut [u32], table: &mut [u32]) -> Answer
             detail: 0,
         },
     }
-}
-
-// The first n words of `from` in the place of those of `to`.
-fn copy(from: &[u32], to: &mut [u32], n: usize)
-    requires { ⌜ n ≤ length (now from) ⌝ }
-    requires { ⌜ n ≤ length (now to) ⌝ }
-    ensures { λ _. ⌜ now (to .exit) ≡ paste (now (to .entry)) 0 (now (from .entry)) n ⌝ }
-{
-    let mut i = 0;
-    while i < n {
-        to[i] = from[i];
-        i += 1;
-    }
-}
-
-// The words of n token records.
-fn words_of(n: u32) -> usize
-    requires { ⌜ n ≤ maxTokens ⌝ }
-    ensures { λ r. ⌜ r ≡ n * tokenWords ⌝ }
-{
-    let m = n as usize;
-    m * Limits::TOKEN_WORDS
 }
 
 // A code or a kind as a word.

@@ -48,8 +48,8 @@ impl Limits {
     // The identifiers in the arguments of a graph, repeats counted.
     pub const USES: usize = 1024;
 
-    // The words of a record in a token table: kind, start, end after the last byte.
-    pub const TOKEN_WORDS: usize = 3;
+    // The words of a record in a token table: kind, start, end after the last byte, line.
+    pub const TOKEN_WORDS: usize = 4;
 
     // The words of a token table, at least.
     pub const TABLE_WORDS: usize = Limits::TOKENS * Limits::TOKEN_WORDS;

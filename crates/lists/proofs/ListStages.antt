@@ -17,7 +17,7 @@ use Rattle.lexis.specs.Lexer.Placed.{none, next}
 use Rattle.lexis.proofs.Theorems.{placed}
 use Rattle.lexis.specs.Answer.{answer}
 use Rattle.lexis.specs.Symbol.{symbols}
-use Rattle.lexis.specs.Work.{Recorded, Room}
+use Rattle.lexis.specs.Work.{records, Recorded, Room}
 use Rattle.lexis.specs.Answer as LA
 use Rattle.lexis.specs.declared.Answer.{Answer}
 use Rattle.lexis.specs.declared.Counted.{Counted}
@@ -101,7 +101,7 @@ read-stops text {c} {p} h e = go (lex text) (sym e ∙ h)
 -- the work area keeps its length
 pub written-length : (l : Lexed) (before after : List ℕ) → Recorded true l before after → length after ≡ length before
 written-length (accepted ts) before after h =
-    ap (λ (x : List ℕ). length x) h ∙ length-sets (sets before 0 (LA.records ts)) firstMark (symbols ts) ∙ length-sets before 0 (LA.records ts)
+    ap (λ (x : List ℕ). length x) h ∙ length-sets (sets before 0 (records ts)) firstMark (symbols ts) ∙ length-sets before 0 (records ts)
 written-length (refused c p) before after h = h
 
 -- ---- rules

@@ -5,26 +5,18 @@ use native.Mathlib.Omega.{arith}
 use native.Mathlib.Nat.{eq-or-lt-of-le, add-zero}
 use mathlib.Core.List.{List, [], _∷_, _++_}
 use mathlib.Core.Logic.{_⊎_, inl, inr}
-use lib.ListN.{length, getD, take, drop, set, length-append}
-use lib.Seq.{getD-drop, getD-take, drop-drop, length-take-le, take-at, getD-append-add, sets, sets-eq, length-sets}
+use lib.ListN.{length, getD, take, drop, set}
+use lib.Seq.{sets, sets-eq, length-sets}
 use Rattle.lexis.specs.Lexer.{Token, Placed}
 use Rattle.lexis.specs.Lexer.Placed.{none, next}
 use Rattle.lexis.specs.Symbol.{symOf, symbols}
-use Rattle.lexis.specs.Answer.{records}
+use Rattle.lexis.specs.Work.{records}
 use Rattle.lexis.specs.Sizes.{maxTokens, recordWords, firstMark, workWords}
-use Rattle.lexis.proofs.Laid.{records-length, sets-set}
+use Rattle.lexis.proofs.Laid.{records-length, word-of, next-tail, sets-set}
+use Rattle.lexis.proofs.Answers.{stored-word}
 use Rattle.syntax.specs.Table.{startAt, endAt, tokenAt, tokensFrom, toks, Holds}
 
 -- ---- the records of tokens, at a place of the table
-
--- a word of the table, read in the tail that starts at the record
-word-of : (table : List ℕ) (i k : ℕ) (l : List ℕ) → drop (i * recordWords) table ≡ l → getD table (i * recordWords + k) 0 ≡ getD l k 0
-word-of table i k l e = sym (getD-drop (i * recordWords) table k 0) ∙ ap (λ (x : List ℕ). getD x k 0) e
-
-next-tail : (table : List ℕ) (i a b c : ℕ) (l : List ℕ) → drop (i * recordWords) table ≡ a ∷ (b ∷ (c ∷ l)) → drop ((i + 1) * recordWords) table ≡ l
-next-tail table i a b c l e =
-    let q : (i + 1) * recordWords ≡ i * recordWords + recordWords = omega arith in
-    ap (λ (n : ℕ). drop n table) q ∙ (sym (drop-drop recordWords (i * recordWords) table) ∙ ap (λ (x : List ℕ). drop recordWords x) e)
 
 same-token : (t : Token) (k s : ℕ) (b : List ℕ) → k ≡ t .kind → s ≡ t .start → b ≡ t .bytes → _≡_ {A = Token} (record { kind = k; start = s; bytes = b }) t
 same-token t k s b p q r = λ i. record { kind = p i; start = q i; bytes = r i }
@@ -78,19 +70,6 @@ symbols-length : (ts : List Token) → length (symbols ts) ≡ length ts
 unfolding symbols
 symbols-length [] = refl
 symbols-length (t ∷ ts) = ap suc (symbols-length ts)
-
--- a word of a row that was stored
-stored-word : (vs l : List ℕ) (at i : ℕ) → at + length vs ≤ length l → i < length vs → getD (sets l at vs) (at + i) 0 ≡ getD vs i 0
-stored-word vs l at i r h =
-    let front : length (take at l) ≡ at = length-take-le at l (omega arith) in
-    let here : at + i ≡ length (take at l) + i = omega arith in
-    let both : length (take at l ++ vs) ≡ at + length vs = length-append (take at l) vs ∙ ap (λ (m : ℕ). m + length vs) front in
-    let rest = drop (at + length vs) l in
-    ap (λ (x : List ℕ). getD x (at + i) 0) (sets-eq vs l at r)
-    ∙ sym (getD-take (at + length vs) (take at l ++ vs ++ rest) (at + i) 0 (omega arith))
-    ∙ ap (λ (x : List ℕ). getD x (at + i) 0) (take-at (take at l ++ vs) rest (at + length vs) both)
-    ∙ ap (λ (m : ℕ). getD (take at l ++ vs) m 0) here
-    ∙ getD-append-add (take at l) vs i 0
 
 -- records stored in front of marks, or marks behind records
 sets-sets : (ss rs l : List ℕ) (at i : ℕ) → at + length rs ≤ i → sets (sets l at rs) i ss ≡ sets (sets l i ss) at rs

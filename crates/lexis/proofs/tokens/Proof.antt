@@ -1,8 +1,9 @@
--- A short table, a long text, and four sizes of work area that answer alike.
-use mathlib.Core.Path.{sym, _∙_}
+-- A short table, a long text, and what the bytes give. The table of classes is computed here, once.
+use mathlib.Core.Path.{refl, sym, _∙_}
 use borrow.Author.Needs.{needs}
 use borrow.Author.Tests.{not-true, not-false, leb-true}
 use Rattle.lexis.specs.Sizes.{maxText, tableWords}
+use Rattle.lexis.specs.Bytes.{classOf, classesFrom, classTable}
 use Rattle.lexis.proofs.Answers.{short-table, long-text, tokens-by}
 use Rattle.lexis.proofs.tokens.Statement.{statement}
 use Rattle.lexis.proofs.tokens.Tie as tie
@@ -28,11 +29,19 @@ returns-2 c =
     long-text (start .args .text .now) (start .args .table .now) (sym (at-table-serves .table-serves .ensures) ∙ not-false _ (c .before .before .if1 .left))
     (sym (c .before .text-fits .ensures) ∙ not-true _ (c .if2 .taken))
 
-tokens-tiny-requires : tie.Need-tokens-tiny-requires
-tokens-tiny-requires c κs =
-    let at-if1 = c .before .before .before .before in
-    let at-table-serves = at-if1 .before in
-    (c .before .if3 .taken, leb-true tableWords _ (sym (at-table-serves .table-serves .ensures) ∙ not-false _ (at-if1 .if1 .left)))
+tokens-within-requires : tie.Need-tokens-within-requires
+unfolding classTable classesFrom classOf
+tokens-within-requires c κs =
+    let at-if2 = c .before .before in
+    let at-text-fits = at-if2 .before in
+    let at-if1 = at-text-fits .before in
+    let at-table-serves = at-if1 .before in (
+      refl,
+      (
+        leb-true _ maxText (sym (at-text-fits .text-fits .ensures) ∙ not-false _ (at-if2 .if2 .left)),
+        leb-true tableWords _ (sym (at-table-serves .table-serves .ensures) ∙ not-false _ (at-if1 .if1 .left)),
+      ),
+    )
 
 same-length : tie.Need-same-length
 same-length c = search needs
@@ -44,73 +53,9 @@ returns-3 c =
     let at-if1 = at-text-fits .before in
     let at-table-serves = at-if1 .before in
     let start = at-table-serves .before .before .before in
+    let w = c .before .before .tokens-within .ensures in
     tokens-by (start .args .text .now) (start .args .table .now) (sym (at-table-serves .table-serves .ensures) ∙ not-false _ (at-if1 .if1 .left))
-    (sym (at-text-fits .text-fits .ensures) ∙ not-false _ (at-if2 .if2 .left)) _ _ (c .before .before .tokens-tiny .ensures .0)
-    (c .before .before .tokens-tiny .ensures .1)
-
-tokens-short-requires : tie.Need-tokens-short-requires
-tokens-short-requires c κs =
-    let at-if1 = c .before .before .before .before .before in
-    let at-table-serves = at-if1 .before in
-    (c .before .if4 .taken, leb-true tableWords _ (sym (at-table-serves .table-serves .ensures) ∙ not-false _ (at-if1 .if1 .left)))
-
-same-length-2 : tie.Need-same-length-2
-same-length-2 c = search needs
-
-returns-4 : tie.Need-returns-4
-returns-4 c =
-    let at-if2 = c .before .before .before .before .before .before in
-    let at-text-fits = at-if2 .before in
-    let at-if1 = at-text-fits .before in
-    let at-table-serves = at-if1 .before in
-    let start = at-table-serves .before .before .before in
-    tokens-by (start .args .text .now) (start .args .table .now) (sym (at-table-serves .table-serves .ensures) ∙ not-false _ (at-if1 .if1 .left))
-    (sym (at-text-fits .text-fits .ensures) ∙ not-false _ (at-if2 .if2 .left)) _ _ (c .before .before .tokens-short .ensures .0)
-    (c .before .before .tokens-short .ensures .1)
-
-tokens-middle-requires : tie.Need-tokens-middle-requires
-tokens-middle-requires c κs =
-    let at-if1 = c .before .before .before .before .before .before in
-    let at-table-serves = at-if1 .before in
-    (c .before .if5 .taken, leb-true tableWords _ (sym (at-table-serves .table-serves .ensures) ∙ not-false _ (at-if1 .if1 .left)))
-
-same-length-3 : tie.Need-same-length-3
-same-length-3 c = search needs
-
-returns-5 : tie.Need-returns-5
-returns-5 c =
-    let at-if2 = c .before .before .before .before .before .before .before in
-    let at-text-fits = at-if2 .before in
-    let at-if1 = at-text-fits .before in
-    let at-table-serves = at-if1 .before in
-    let start = at-table-serves .before .before .before in
-    tokens-by (start .args .text .now) (start .args .table .now) (sym (at-table-serves .table-serves .ensures) ∙ not-false _ (at-if1 .if1 .left))
-    (sym (at-text-fits .text-fits .ensures) ∙ not-false _ (at-if2 .if2 .left)) _ _ (c .before .before .tokens-middle .ensures .0)
-    (c .before .before .tokens-middle .ensures .1)
-
-tokens-long-requires : tie.Need-tokens-long-requires
-tokens-long-requires c κs =
-    let at-if2 = c .before .before .before .before in
-    let at-text-fits = at-if2 .before in
-    let at-if1 = at-text-fits .before in
-    let at-table-serves = at-if1 .before in (
-      leb-true _ maxText (sym (at-text-fits .text-fits .ensures) ∙ not-false _ (at-if2 .if2 .left)),
-      leb-true tableWords _ (sym (at-table-serves .table-serves .ensures) ∙ not-false _ (at-if1 .if1 .left)),
-    )
-
-same-length-4 : tie.Need-same-length-4
-same-length-4 c = search needs
-
-returns-6 : tie.Need-returns-6
-returns-6 c =
-    let at-if2 = c .before .before .before .before .before .before .before in
-    let at-text-fits = at-if2 .before in
-    let at-if1 = at-text-fits .before in
-    let at-table-serves = at-if1 .before in
-    let start = at-table-serves .before .before .before in
-    tokens-by (start .args .text .now) (start .args .table .now) (sym (at-table-serves .table-serves .ensures) ∙ not-false _ (at-if1 .if1 .left))
-    (sym (at-text-fits .text-fits .ensures) ∙ not-false _ (at-if2 .if2 .left)) _ _ (c .before .before .tokens-long .ensures .0)
-    (c .before .before .tokens-long .ensures .1)
+    (sym (at-text-fits .text-fits .ensures) ∙ not-false _ (at-if2 .if2 .left)) _ _ (w .0) (w .1)
 
 pub tokens-spec : {M : Type 1} → statement M
 tokens-spec =
@@ -121,15 +66,6 @@ tokens-spec =
     text-fits-requires
     cast-end
     returns-2
-    tokens-tiny-requires
+    tokens-within-requires
     same-length
-    returns-3
-    tokens-short-requires
-    same-length-2
-    returns-4
-    tokens-middle-requires
-    same-length-3
-    returns-5
-    tokens-long-requires
-    same-length-4
-    returns-6)
+    returns-3)
