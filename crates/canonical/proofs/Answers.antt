@@ -1,22 +1,20 @@
 -- What the page of the demands says of answers and is not said in a crate below: `tokens` in both directions; work areas after an answer;
 -- refusals that operations share; the tokens of a canonical text.
 use mathlib.Core.Path.{_≡_, refl, sym, ap, _∙_}
-use mathlib.Core.Bool.{Bool, true, false, cond}
+use mathlib.Core.Bool.{true, false}
 use mathlib.Core.List.{List, [], _∷_}
 use mathlib.Core.Logic.{inl, inr}
 use Prim.Native.Nat.{ℕ, suc, _+_, _≤_, _<_}
 use native.Mathlib.Nat.{zero-add}
-use native.Mathlib.Omega.{arith}
-use lib.Dec.{leb}
 use lib.ListN.{length, replicate}
 use lib.Seq.{sets}
-use borrow.Author.Tests.{le-leb, lt-leb, leb-true}
+use borrow.Author.Tests.{le-leb, lt-leb}
 use Rattle.lexis.specs.Sizes.{maxText, maxTokens, tableWords, workWords}
 use Rattle.lexis.specs.Code as Code
-use Rattle.lexis.specs.Lexer.{Token, Lexed, accepted, refused, lex}
-use Rattle.lexis.specs.Answer.{answer, tokenRecords, answerOf, counted, tokensAnswer, tokensTable}
+use Rattle.lexis.specs.Lexer.{Token, accepted, refused, lex}
+use Rattle.lexis.specs.Answer.{answer, tokenRecords, tokensAnswer, tokensTable}
 use Rattle.lexis.specs.declared.Answer.{Answer}
-use Rattle.lexis.proofs.Theorems.{coded}
+use Rattle.lexis.proofs.Rows.{listed}
 use Rattle.syntax.specs.Tree.{Header}
 use Rattle.lists.specs.Answer.{Stage, pass, stop, stageAnswer, listStages, declarationsAnswer, workAfter}
 use Rattle.lists.specs.Accepted.{AcceptedList}
@@ -57,16 +55,7 @@ module _ (text table : List ℕ) where
 
   pub tokens-accepted : tokensAnswer text table .code ≡ Code.accepted
       → (tableWords ≤ length table) × ((length text ≤ maxText) × ((ts : List Token) × (lex text ≡ accepted ts)))
-  unfolding tokensAnswer
-  tokens-accepted e = go (leb tableWords (length table)) (leb (length text) maxText) (lex text) refl refl refl e
-    where
-      go : (a b : Bool) (l : Lexed) → leb tableWords (length table) ≡ a → leb (length text) maxText ≡ b → lex text ≡ l
-          → cond a (cond b (answerOf (counted l)) (answer Code.longText 1 maxText 0)) (answer Code.shortRoom 0 0 0) .code ≡ 0
-          → (tableWords ≤ length table) × ((length text ≤ maxText) × ((ts : List Token) × (lex text ≡ accepted ts)))
-      go false b l p q r e = absurd (omega arith)
-      go true false l p q r e = absurd (omega arith)
-      go true true (accepted ts) p q r e = (leb-true tableWords (length table) p, (leb-true (length text) maxText q, (ts, r)))
-      go true true (refused c k) p q r e = let h = coded text c k r in absurd (omega (arith, h .0, e))
+  tokens-accepted e = let d = listed text table e in (d .room, (d .fits, (d .ts, d .lexed)))
 
 -- ---- work areas
 

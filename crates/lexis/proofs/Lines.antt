@@ -1,5 +1,5 @@
 -- Line feeds: in two parts of a text, in a run, in a token, which holds none (`flat`). Then the lines of two positions of a text.
--- Relies on `Line` and `Lexeme` of the specs.
+-- Relies on `Line` and `Lexeme` of the specs, and on `Lengths` for the bytes of marks.
 use mathlib.Core.Path.{_≡_, refl, sym, ap, _∙_, subst}
 use mathlib.Core.Bool.{Bool, true, false, cond, _||_, and-false, false≢true}
 use mathlib.Core.List.{List, [], _∷_, _++_}
@@ -18,6 +18,7 @@ use Rattle.lexis.specs.Lexeme.{numberLexeme, wordLexeme, stringLexeme, t
 use Rattle.lexis.specs.Line.{lineFeeds, lineOf, NoFeed}
 use Rattle.lexis.specs.declared.token.Lexeme.{Lexeme}
 use Rattle.lexis.specs.declared.token.Lexeme.the-variants.{Token, Fault}
+use Rattle.lexis.proofs.Lengths.{by-cases, another-class, pair-next, arrow-next}
 
 -- ---- two parts
 
@@ -138,27 +139,23 @@ abbrev Flat : List ℕ → Lexeme → Type 0
 Flat s (Token k n) = lineFeeds (take n s) ≡ 0
 Flat s (Fault c) = Unit {0}
 
-by-cases : (s : List ℕ) (b : Bool) (x y : Lexeme) → (b ≡ true → Flat s x) → (b ≡ false → Flat s y) → Flat s (cond b x y)
-by-cases s true x y f g = f refl
-by-cases s false x y f g = g refl
-
 number-flat : (s : List ℕ) → Flat s (numberLexeme s)
 unfolding numberLexeme
 number-flat s =
     let n = partsLen (partsOf s) in
-    by-cases s (sticks (getD s n 0)) _ _ (λ _. tt)
-    (λ _. by-cases s (leb n maxNumber) _ _ (λ _. by-cases s (inRange (take n s) (partsOf (take n s))) _ _ (λ _. parts-flat s) (λ _. tt)) (λ _. tt))
+    by-cases (Flat s) (sticks (getD s n 0)) _ _ (λ _. tt)
+    (λ _. by-cases (Flat s) (leb n maxNumber) _ _ (λ _. by-cases (Flat s) (inRange (take n s) (partsOf (take n s))) _ _ (λ _. parts-flat s) (λ _. tt)) (λ _. tt))
 
 word-flat : (s : List ℕ) → Flat s (wordLexeme s)
 unfolding wordLexeme classOf
-word-flat s = by-cases s (leb (spanLen isNamePart s) maxName) _ _ (λ _. span-flat isNamePart s refl) (λ _. tt)
+word-flat s = by-cases (Flat s) (leb (spanLen isNamePart s) maxName) _ _ (λ _. span-flat isNamePart s refl) (λ _. tt)
 
 string-flat : (q : ℕ) (s : List ℕ) → (q ≡ 10 → ⊥) → Flat (q ∷ s) (stringLexeme q s)
 unfolding stringLexeme
 string-flat q s h =
     let n = spanLen (isContent q) s in
-    by-cases (q ∷ s) (eqb (getD s n 0) q) _ _
-    (λ t. by-cases (q ∷ s) (leb n maxString) _ _
+    by-cases (Flat (q ∷ s)) (eqb (getD s n 0) q) _ _
+    (λ t. by-cases (Flat (q ∷ s)) (leb n maxString) _ _
     (λ _.
     let long : n + 2 ≡ 1 + n + 1 = omega arith in
     let from : getD (drop n s) 0 0 ≡ getD s n 0 = getD-drop n s 0 0 ∙ ap (λ (i : ℕ). getD s i 0) (add-zero n) in
@@ -170,10 +167,10 @@ string-flat q s h =
     (λ _. tt))
     (λ _. tt)
 
--- a byte of another class than white space is no line feed
-class-feed : (x k : ℕ) → classOf x ≡ suc (suc k) → x ≡ 10 → ⊥
+-- the line feed is white space
+class-feed : classOf 10 ≡ 1
 unfolding classOf
-class-feed x k e z = let one : _≡_ {A = ℕ} 1 (suc (suc k)) = ap classOf (sym z) ∙ e in omega arith
+class-feed = refl
 
 two-flat : (a : ℕ) (s : List ℕ) → (a ≡ 10 → ⊥) → (getD s 0 0 ≡ 10 → ⊥) → lineFeeds (take 2 (a ∷ s)) ≡ 0
 two-flat a s h l = both-flat 1 1 (a ∷ s) (first-flat (a ∷ s) h) (first-flat s l)
@@ -181,18 +178,6 @@ two-flat a s h l = both-flat 1 1 (a ∷ s) (first-flat (a ∷ s) h) (first-flat 
 pair-first : (a b : ℕ) → isPair a b ≡ true → a ≡ 10 → ⊥
 unfolding isPair takesEqual classOf
 pair-first a b t e = false≢true (sym (and-false (eqb b 61)) ∙ ap (λ (x : ℕ). isPair x b) (sym e) ∙ t)
-
-pair-second : (a b : ℕ) → isPair a b ≡ true → b ≡ 10 → ⊥
-unfolding isPair
-pair-second a b t z = go (eqb (classOf a) 8) refl
-  where
-    go : (c : Bool) → eqb (classOf a) 8 ≡ c → ⊥
-    go true e = class-feed a 6 (eqb-true (classOf a) 8 e) (let w : eqb b a ≡ true = rw e at t in sym (eqb-true b a w) ∙ z)
-    go false e = false≢true (rw z at (rw e at t))
-
-arrow-second : (a b : ℕ) → isArrow a b ≡ true → b ≡ 10 → ⊥
-unfolding isArrow
-arrow-second a b t z = false≢true (sym (and-false (eqb a 45)) ∙ (rw z at t))
 
 arrow-first : (a b : ℕ) → isArrow a b ≡ true → a ≡ 10 → ⊥
 unfolding isArrow
@@ -202,21 +187,21 @@ mark-flat : (a : ℕ) (s : List ℕ) → Flat (a ∷ s) (markLexeme a (getD s 0 
 unfolding markLexeme
 mark-flat a s =
     let b = getD s 0 0 in
-    by-cases (a ∷ s) (isPair a b) _ _ (λ t. two-flat a s (pair-first a b t) (pair-second a b t))
+    by-cases (Flat (a ∷ s)) (isPair a b) _ _ (λ t. two-flat a s (pair-first a b t) (pair-next 10 a b (omega (arith, class-feed)) refl t))
     (λ _.
-    by-cases (a ∷ s) (isArrow a b) _ _ (λ t. two-flat a s (arrow-first a b t) (arrow-second a b t))
+    by-cases (Flat (a ∷ s)) (isArrow a b) _ _ (λ t. two-flat a s (arrow-first a b t) (arrow-next 10 a b refl t))
     (λ _.
-    by-cases (a ∷ s) (eqb (classOf a) 6) _ _ (λ t. first-flat (a ∷ s) (class-feed a 4 (eqb-true (classOf a) 6 t)))
-    (λ _. by-cases (a ∷ s) (eqb (classOf a) 7) _ _ (λ t. first-flat (a ∷ s) (class-feed a 5 (eqb-true (classOf a) 7 t))) (λ _. tt))))
+    by-cases (Flat (a ∷ s)) (eqb (classOf a) 6) _ _ (λ t. first-flat (a ∷ s) (another-class a 10 6 (eqb-true (classOf a) 6 t) (omega (arith, class-feed))))
+    (λ _. by-cases (Flat (a ∷ s)) (eqb (classOf a) 7) _ _ (λ t. first-flat (a ∷ s) (another-class a 10 7 (eqb-true (classOf a) 7 t) (omega (arith, class-feed)))) (λ _. tt))))
 
 flat : (s : List ℕ) → Flat s (lexeme s)
 unfolding lexeme
 flat [] = tt
 flat (x ∷ s) =
-    by-cases (x ∷ s) (eqb (classOf x) 2) _ _ (λ _. number-flat (x ∷ s))
+    by-cases (Flat (x ∷ s)) (eqb (classOf x) 2) _ _ (λ _. number-flat (x ∷ s))
     (λ _.
-    by-cases (x ∷ s) (eqb (classOf x) 3) _ _ (λ _. word-flat (x ∷ s))
-    (λ _. by-cases (x ∷ s) (eqb (classOf x) 4) _ _ (λ t. string-flat x s (class-feed x 2 (eqb-true (classOf x) 4 t))) (λ _. mark-flat x s)))
+    by-cases (Flat (x ∷ s)) (eqb (classOf x) 3) _ _ (λ _. word-flat (x ∷ s))
+    (λ _. by-cases (Flat (x ∷ s)) (eqb (classOf x) 4) _ _ (λ t. string-flat x s (another-class x 10 4 (eqb-true (classOf x) 4 t) (omega (arith, class-feed)))) (λ _. mark-flat x s)))
 
 -- so it ends on the line on which it starts
 pub token-line : (text : List ℕ) (p k n : ℕ) → lexeme (drop p text) ≡ Token k n → lineOf text (p + n) ≡ lineOf text p

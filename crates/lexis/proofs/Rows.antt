@@ -72,15 +72,17 @@ module _ (text : List ℕ) where
 
 -- ---- the table after an acceptance
 
-record Listed (text table : List ℕ) : Type 0 where
+-- what an acceptance says: the text is within its limit, the table has room, and its first words are the records of the tokens
+pub record Listed (text table : List ℕ) : Type 0 where
   pub ts : List Token
   pub lexed : lex text ≡ accepted ts
   pub many : tokensAnswer text table .detail ≡ length ts
   pub room : tableWords ≤ length table
+  pub fits : length text ≤ maxText
   pub stored : tokensTable text table ≡ sets table 0 (tokenRecords text ts)
 
 module _ (text table : List ℕ) (a : tokensAnswer text table .code ≡ 0) where
-  listed : Listed text table
+  pub listed : Listed text table
   unfolding tokensAnswer tokensTable
   listed = go (leb tableWords (length table)) (leb (length text) maxText) (lex text) refl refl refl
     where
@@ -89,7 +91,14 @@ module _ (text table : List ℕ) (a : tokensAnswer text table .code ≡ 0) where
       go true false l p q e = let z : _≡_ {A = ℕ} 2 0 = rw (p, q) at a in absurd (omega arith)
       go true true (refused k d) p q e = let z : k ≡ 0 = rw (p, q, e) at a in absurd (omega (arith, all-fine text (refused k d) e .0))
       go true true (accepted ts) p q e =
-          record { ts = ts; lexed = e; many = rw (p, q, e) (omega arith); room = leb-true tableWords (length table) p; stored = rw (p, q, e) }
+          record {
+            ts = ts;
+            lexed = e;
+            many = rw (p, q, e) (omega arith);
+            room = leb-true tableWords (length table) p;
+            fits = leb-true (length text) maxText q;
+            stored = rw (p, q, e);
+          }
 
   module _ (i : ℕ) (h : i < tokensAnswer text table .detail) where
     word : (k : ℕ) → k < tokenWords → getD (tokensTable text table) (i * tokenWords + k) 0 ≡ getD (tokenRecords text (listed .ts)) (i * tokenWords + k) 0

@@ -1,4 +1,4 @@
--- The line on which a position of a text stands. Relies on `Lexer` for tokens, and there for a claim alone.
+-- The line on which a position of a text stands. Relies on `Lexer`, for what is claimed of tokens alone.
 use Prim.Native.Nat.{ℕ, suc, _+_, _<_, _≤_}
 use mathlib.Core.Path.{_≡_}
 use mathlib.Core.Bool.{cond}
