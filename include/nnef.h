@@ -29,14 +29,14 @@ extern "C" {
 #endif
 
 /* The version of the library that this header belongs to. */
-#define NNEF_LIBRARY_VERSION "2.0.0"
+#define NNEF_LIBRARY_VERSION "2.1.0"
 
 /* Sizes: the most that there may be. */
 #define NNEF_TEXT_BYTES 16384 /* bytes of a text */
 #define NNEF_TOKENS 4096      /* tokens of a text */
 #define NNEF_NAME_BYTES 64    /* bytes of a name */
 #define NNEF_STRING_BYTES 128 /* bytes of a string between its quotes */
-#define NNEF_NUMBER_BYTES 64  /* bytes of a number */
+#define NNEF_NUMBER_BYTES 64  /* bytes of a number, without its sign */
 #define NNEF_BRACKETS 8       /* brackets of arrays, tuples and types open at once */
 #define NNEF_OPERATIONS 128   /* operations of a list */
 #define NNEF_PARAMETERS 32    /* parameters of an operation */
@@ -98,11 +98,11 @@ enum nnef_code {
     NNEF_VERSION = 11,        /* the version is not spelt 1.0 */
     NNEF_TOO_MANY = 12,       /* more operations, parameters, results, inputs, outputs, calls or identifiers than there may be */
     NNEF_REPEATED = 13,       /* a name is repeated in a list or a header */
-    NNEF_BAD_DEFAULT = 14,    /* a default does not fit its parameter's type */
+    NNEF_BAD_DEFAULT = 14,    /* a default does not fit its parameter's type; of a negative number position is the sign */
     NNEF_UNDECLARED = 15,     /* the operation is not declared */
-    NNEF_MISPLACED = 16,      /* a positional argument may not stand there */
+    NNEF_MISPLACED = 16,      /* a positional argument may not stand there; of a negative number position is the sign */
     NNEF_MISNAMED = 17,       /* a named argument is unknown, or its parameter is already bound */
-    NNEF_MISFIT = 18,         /* an argument does not fit its parameter's type */
+    NNEF_MISFIT = 18,         /* an argument does not fit its parameter's type; of a negative number position is the sign */
     NNEF_MISSING = 19,        /* a parameter without default is not bound; detail is the first such index */
     NNEF_UNMATCHED = 20,      /* a left side does not match the operation's results */
     NNEF_AGAIN = 21,          /* an identifier is assigned again */
@@ -120,6 +120,10 @@ enum nnef_code {
  * and, with the zeros at both ends of its digits dropped and the point moved
  * behind the last digit left, at most 18 digits are left and the exponent then
  * lies between -999 and 999. Zero asks only for the first of these.
+ *
+ * A `-` is a token of its own, before a number too. In lists and documents the
+ * two make a negative literal, with white space and comments between them or
+ * not. An extent lies between -2147483648 and 2147483647.
  */
 enum nnef_kind {
     NNEF_NAME = 1,
@@ -199,8 +203,9 @@ nnef_answer nnef_check(const uint8_t *list, size_t list_len,
  * are the first of `out`; those behind them keep what they held. When anything
  * is refused, the whole output keeps what it held. Under one list, two documents
  * have the same canonical text exactly when they say the same, defaults filled
- * in; a canonical text is its own. After any answer but codes 1 and 2, which
- * write nothing, the work areas are zero over their whole length.
+ * in; minus zero says what zero says. A canonical text is its own. After any
+ * answer but codes 1 and 2, which write nothing, the work areas are zero over
+ * their whole length.
  */
 nnef_answer nnef_canon(const uint8_t *list, size_t list_len,
                        const uint8_t *document, size_t document_len,

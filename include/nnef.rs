@@ -5,7 +5,7 @@
 #![allow(dead_code)]
 
 /// The version of the library that this module belongs to.
-pub const LIBRARY_VERSION: &str = "2.0.0";
+pub const LIBRARY_VERSION: &str = "2.1.0";
 
 // Sizes: the most that there may be.
 pub const TEXT_BYTES: usize = 16_384;
@@ -69,7 +69,7 @@ pub const UNMADE: u32 = 24;
 pub const CANON_TOO_LONG: u32 = 25;
 pub const OUT_TOO_SHORT: u32 = 26;
 
-// Kinds of token.
+// Kinds of token. A `-` is an operator, before a number too.
 pub const NAME: u32 = 1;
 pub const WHOLE: u32 = 2;
 pub const REAL: u32 = 3;

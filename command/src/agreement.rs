@@ -18,7 +18,7 @@ const GRAPH: &str = include_str!("../../tests/command/twice.nnef");
 const RUNS: usize = 4000;
 
 /// Tokens that a damaged text gets.
-const POOL: [&str; 36] = [
+const POOL: [&str; 41] = [
     "version",
     "1.0",
     "graph",
@@ -41,8 +41,13 @@ const POOL: [&str; 36] = [
     "->",
     "<",
     "-",
+    "+",
     "1",
+    "-1",
+    "- 0.5",
     "2147483648",
+    "-2147483648",
+    "-2147483649",
     "0.5",
     "'s'",
     "true",

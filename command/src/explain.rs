@@ -119,7 +119,7 @@ fn of_syntax(code: Code) -> Explanation {
     match code {
         Code::Syntax => explained(
             "the first token that no valid text has there, or the text's end",
-            "a sign, name or bracket is missing or too many just before, or the file is not flat NNEF as chapter 3 has it",
+            "a mark, name or bracket is missing or too many just before, or the file is not flat NNEF as chapter 3 has it",
             "compare the line with the grammar in docs/RULES.md",
         ),
         _ => explained(
@@ -183,9 +183,11 @@ fn of_calls(code: Code) -> Explanation {
             "the parameter's name is misspelt, or it has a value already, perhaps by its place",
             "use a parameter of the operation, and each once",
         ),
-        Code::Misfit => {
-            explained("the value's start", "the value is of another kind than the parameter", "write a value of the parameter's type")
-        }
+        Code::Misfit => explained(
+            "the value's start",
+            "the value is of another kind than the parameter, or a whole number beyond the bounds of an extent",
+            "write a value of the parameter's type",
+        ),
         Code::Missing => explained(
             "the operation's name",
             "a parameter that has no default was left out, or its value was written without its name",

@@ -1,36 +1,37 @@
 //! Which values a type takes, and which parameter each argument binds.
 
-use crate::tree::{Argument, Form, Operation, Type, Value};
+use crate::tree::{Argument, Form, Literal, Operation, Type, Value};
 use sluicegnome::Kind;
 
-/// The greatest whole number that fits extent.
-pub const GREATEST_EXTENT: u64 = 2_147_483_647;
+/// The least and the greatest whole number that fit extent.
+pub const LEAST_EXTENT: i64 = -2_147_483_648;
+pub const GREATEST_EXTENT: i64 = 2_147_483_647;
 
 /// Whether a value fits a type. A left side matches the results when it fits their type.
 pub fn fits(value: &Value, ty: &Type) -> bool {
     match (&value.form, ty) {
         (Form::Name(_), Type::Basic(word)) => *word == "tensor",
-        (Form::Literal(kind, spelling), Type::Basic(word)) => literal_fits(*kind, spelling, word),
+        (Form::Literal(literal), Type::Basic(word)) => literal_fits(literal, word),
         (Form::Array(items), Type::Array(item_type)) => items.iter().all(|item| fits(item, item_type)),
         (Form::Tuple(items), Type::Tuple(types)) => items.len() == types.len() && items.iter().zip(types).all(|(item, ty)| fits(item, ty)),
         _ => false,
     }
 }
 
-fn literal_fits(kind: Kind, spelling: &str, word: &str) -> bool {
+fn literal_fits(literal: &Literal, word: &str) -> bool {
     match word {
-        "tensor" => kind != Kind::String,
-        "extent" => kind == Kind::Whole && is_extent(spelling),
-        "scalar" => matches!(kind, Kind::Whole | Kind::Real),
-        "logical" => kind == Kind::Logical,
-        _ => kind == Kind::String,
+        "tensor" => literal.kind != Kind::String,
+        "extent" => literal.kind == Kind::Whole && is_extent(literal),
+        "scalar" => literal.is_number(),
+        "logical" => literal.kind == Kind::Logical,
+        _ => literal.kind == Kind::String,
     }
 }
 
-/// Whether a whole number is small enough for an extent.
-pub fn is_extent(digits: &str) -> bool {
-    let digits = digits.trim_start_matches('0');
-    digits.is_empty() || digits.parse().is_ok_and(|value: u64| value <= GREATEST_EXTENT)
+/// Whether a whole number is an extent. One that is too long for 64 bits is none.
+fn is_extent(whole: &Literal) -> bool {
+    let value: Result<i64, _> = whole.to_string().parse();
+    value.is_ok_and(|value| (LEAST_EXTENT..=GREATEST_EXTENT).contains(&value))
 }
 
 /// What becomes of an argument.

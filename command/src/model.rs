@@ -8,7 +8,7 @@ use crate::number::decimal;
 use crate::reader;
 use crate::texts::{tokens, Texts};
 use crate::tree::{self, Form, Name, Operation, Value};
-use sluicegnome::{Checked, Code, Kind, Refusal};
+use sluicegnome::{Checked, Code, Refusal};
 
 /// Lines of a canonical text before its first call.
 const LINES_BEFORE_CALLS: usize = 3;
@@ -157,8 +157,8 @@ fn spelled(value: &Value, number: &dyn Fn(&str) -> String) -> String {
     let items = |items: &[Value]| items.iter().map(|item| spelled(item, number)).collect::<Vec<String>>().join(",");
     match &value.form {
         Form::Name(name) => name.to_string(),
-        Form::Literal(Kind::Whole | Kind::Real, spelling) => number(spelling),
-        Form::Literal(_, spelling) => spelling.to_string(),
+        Form::Literal(literal) if literal.is_number() => number(&literal.to_string()),
+        Form::Literal(literal) => literal.to_string(),
         Form::Array(values) => format!("[{}]", items(values)),
         Form::Tuple(values) => format!("({})", items(values)),
     }

@@ -8,8 +8,16 @@ pub const GREATEST_EXPONENT: usize = 999;
 /// Longer decimals than this are shown with an exponent.
 const LONGEST: usize = 24;
 
-/// A number of a canonical text in decimal: `484813681109536e-20` is `0.00000484813681109536`. Any other spelling stays.
+/// A number of a canonical text in decimal: `-484813681109536e-20` is `-0.00000484813681109536`. Any other spelling stays.
 pub fn decimal(number: &str) -> String {
+    match number.strip_prefix('-') {
+        Some(size) => format!("-{}", unsigned(size)),
+        None => unsigned(number),
+    }
+}
+
+/// The same for a number without its sign.
+fn unsigned(number: &str) -> String {
     let Some((mantissa, exponent)) = number.split_once('e').filter(|(mantissa, _)| mantissa.bytes().all(|byte| byte.is_ascii_digit()))
     else {
         return number.to_string();
@@ -74,6 +82,11 @@ mod tests {
             ("484813681109536e-20", "0.00000484813681109536"),
             ("512", "512"),
             ("4.8e-6", "4.8e-6"),
+            ("-5e-1", "-0.5"),
+            ("-12e3", "-12000"),
+            ("-1e999", "-1e999"),
+            ("-123e-999", "-1.23e-997"),
+            ("-1", "-1"),
         ] {
             assert_eq!(decimal(canonical), shown);
         }

@@ -3,7 +3,7 @@
 //! The readers go by the next token alone and note what they looked for, so that a stop can say what may stand there. After a stop they
 //! go on at the next header or call, to find what else there is.
 
-use crate::tree::{Argument, Call, Document, Form, Name, Operation, Parameter, Type, Value};
+use crate::tree::{Argument, Call, Document, Form, Literal, Name, Operation, Parameter, Type, Value};
 use sluicegnome::{limits, Code, Kind, Token};
 
 /// Where the reading stopped: with code 9 or 10, at a token or the text's end, and what may stand there.
@@ -150,7 +150,7 @@ impl<'a, 't> Reader<'a, 't> {
     /// A document up to and with the `{` of its body, without calls.
     fn document_header(&mut self) -> Result<Document<'a>, Stop> {
         self.expect("version", "`version`")?;
-        let version = self.number()?;
+        let (_, version) = self.number()?;
         self.expect("graph", "`graph`")?;
         let name = self.name("a name")?;
         let inputs = self.names_in_brackets()?;
@@ -240,7 +240,12 @@ impl<'a, 't> Reader<'a, 't> {
             }
             Kind::Whole | Kind::Real | Kind::String | Kind::Logical if leaves != Leaves::Names => {
                 self.advance();
-                Form::Literal(token.kind, spelling)
+                Form::Literal(Literal { kind: token.kind, negative: false, spelling })
+            }
+            Kind::Operator if spelling == "-" && leaves != Leaves::Names => {
+                self.advance();
+                let (kind, number) = self.number()?;
+                Form::Literal(Literal { kind, negative: true, spelling: number.spelling })
             }
             _ if spelling == "[" => Form::Array(self.array(leaves)?),
             _ if spelling == "(" => Form::Tuple(self.tuple(leaves)?),
@@ -311,9 +316,10 @@ impl<'a, 't> Reader<'a, 't> {
         Ok(())
     }
 
-    fn number(&mut self) -> Result<Name<'a>, Stop> {
+    /// A number without a sign, and its kind.
+    fn number(&mut self) -> Result<(Kind, Name<'a>), Stop> {
         match self.token() {
-            Some(token) if matches!(token.kind, Kind::Whole | Kind::Real) => Ok(self.take_name(token)),
+            Some(token) if matches!(token.kind, Kind::Whole | Kind::Real) => Ok((token.kind, self.take_name(token))),
             _ => {
                 self.looked_for("a number");
                 Err(self.stop(Code::Syntax))

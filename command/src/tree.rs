@@ -46,9 +46,18 @@ pub struct Value<'a> {
 #[derive(Debug)]
 pub enum Form<'a> {
     Name(&'a str),
-    Literal(Kind, &'a str),
+    Literal(Literal<'a>),
     Array(Vec<Value<'a>>),
     Tuple(Vec<Value<'a>>),
+}
+
+/// A number, which may have a sign, a string, `true` or `false`.
+#[derive(Clone, Copy, Debug)]
+pub struct Literal<'a> {
+    pub kind: Kind,
+    pub negative: bool,
+    /// Without the sign.
+    pub spelling: &'a str,
 }
 
 #[derive(Debug)]
@@ -122,6 +131,19 @@ impl Type {
             Type::Array(item) => item.is_all_tensor(),
             Type::Tuple(items) => items.iter().all(Type::is_all_tensor),
         }
+    }
+}
+
+impl Literal<'_> {
+    pub fn is_number(&self) -> bool {
+        matches!(self.kind, Kind::Whole | Kind::Real)
+    }
+}
+
+/// A sign stands directly before its number, wherever it stands in the text.
+impl fmt::Display for Literal<'_> {
+    fn fmt(&self, f: &mut fmt::Formatter) -> fmt::Result {
+        write!(f, "{}{}", if self.negative { "-" } else { "" }, self.spelling)
     }
 }
 

@@ -1,5 +1,6 @@
 //! The one text of an accepted document. A value's tokens are those of the
-//! document or of the default, in their order; only leaves are spelt anew.
+//! document or of the default, in their order, but for the sign of a minus zero;
+//! only leaves are spelt anew.
 
 use crate::binding::Binding;
 use crate::graph::Graph;
@@ -32,9 +33,17 @@ struct Writer<'w> {
     document: &'w Document<'w>,
     bytes: Vec<u8>,
     tokens: usize,
-    /// For each parameter of the list where its default was written first: the
-    /// start and the end in `bytes`, or zeros. It is copied from there.
-    defaults: Vec<(u32, u32)>,
+    /// For each parameter of the list where its default was written first, if it
+    /// was. It is copied from there.
+    defaults: Vec<Option<Written>>,
+}
+
+/// Bytes of the text, and how many tokens they are.
+#[derive(Clone, Copy)]
+struct Written {
+    start: usize,
+    end: usize,
+    tokens: usize,
 }
 
 /// No bound value: the default is taken.
@@ -47,7 +56,7 @@ impl<'w> Writer<'w> {
             document,
             bytes: Vec::with_capacity(2 * document.text.len() + 256),
             tokens: 0,
-            defaults: vec![(0, 0); list.parameters.len()],
+            defaults: vec![None; list.parameters.len()],
         }
     }
 
@@ -94,27 +103,28 @@ impl<'w> Writer<'w> {
 
     /// The default of the parameter at this place of the list.
     fn default(&mut self, parameter: &Parameter, place: usize) {
-        let (start, end) = self.defaults[place];
-        if end > 0 {
-            self.bytes.extend_from_within(start as usize..end as usize);
-            self.tokens += parameter.default.len();
+        if let Some(Written { start, end, tokens }) = self.defaults[place] {
+            self.bytes.extend_from_within(start..end);
+            self.tokens += tokens;
             return;
         }
-        let start = self.bytes.len() as u32;
+        let (start, tokens) = (self.bytes.len(), self.tokens);
         let list = self.list;
         self.value(parameter.default.of(&list.tokens), list.text, parameter.ty);
-        self.defaults[place] = (start, self.bytes.len() as u32);
+        self.defaults[place] = Some(Written {
+            start,
+            end: self.bytes.len(),
+            tokens: self.tokens - tokens,
+        });
     }
 
     /// Names, brackets and commas as they are written.
     fn left(&mut self, tokens: &[Token]) {
-        self.tokens += tokens.len();
         self.leaves(tokens, self.document.text, Item::Tensor);
     }
 
     /// A value that fits its type.
     fn value(&mut self, tokens: &[Token], text: &[u8], ty: Type) {
-        self.tokens += tokens.len();
         if let Item::Tuple(_) = ty.item {
             self.typed(tokens, text, ty);
         } else {
@@ -124,7 +134,8 @@ impl<'w> Writer<'w> {
 
     /// Tokens whose leaves are all of this type.
     fn leaves(&mut self, tokens: &[Token], text: &[u8], item: Item) {
-        for token in tokens {
+        self.tokens += tokens.len();
+        for (place, token) in tokens.iter().enumerate() {
             let bytes = token.bytes(text);
             match token.symbol {
                 Symbol::Whole if item == Item::Extent => {
@@ -133,6 +144,9 @@ impl<'w> Writer<'w> {
                 Symbol::Whole | Symbol::Real => self.number(bytes),
                 Symbol::String => self.string(bytes),
                 Symbol::Name | Symbol::Truth => self.bytes.extend_from_slice(bytes),
+                Symbol::Minus if number::is_zero(tokens[place + 1].bytes(text)) => {
+                    self.tokens -= 1;
+                }
                 _ => self.bytes.push(bytes[0]),
             }
         }
@@ -166,9 +180,10 @@ impl<'w> Writer<'w> {
         self.one(rest, text, ty)
     }
 
-    /// The token that comes first; gives those behind it.
+    /// The token that comes first, a sign with its number; gives those behind it.
     fn one<'t>(&mut self, tokens: &'t [Token], text: &[u8], ty: Type) -> &'t [Token] {
-        let (first, rest) = tokens.split_at(1);
+        let signed = tokens[0].symbol == Symbol::Minus;
+        let (first, rest) = tokens.split_at(if signed { 2 } else { 1 });
         self.leaves(first, text, ty.item);
         rest
     }
@@ -321,6 +336,40 @@ mod tests {
             e,(h,i)=f(x=[],by=[[]]);\n}\n";
         assert_eq!(written(list, document), text);
         assert_eq!(written(list, text), text);
+    }
+
+    #[test]
+    fn signs() {
+        let list = b"fragment external(shape: extent[]) -> (output: tensor) \
+            fragment f(x: tensor, by: (extent, scalar)[] = [(-01, -1.50), (-0, - 0e5)], \
+            at: extent = - # the least\n2147483648, to: extent[] = [-0, -2]) -> (y: tensor)";
+        let document = b"version 1.0 graph g(a) -> (b) { a = external(shape = [-1]) \
+            b = f(-0.0, to = []); c = f(-2) d = f(- 20, at = -0, by = [(- 3, 4)]) }";
+        let text = b"version 1.0\ngraph g(a)->(b)\n{\na=external(shape=[-1]);\n\
+            b=f(x=0e0,by=[(-1,-15e-1),(0,0e0)],at=-2147483648,to=[]);\n\
+            c=f(x=-2e0,by=[(-1,-15e-1),(0,0e0)],at=-2147483648,to=[0,-2]);\n\
+            d=f(x=-2e1,by=[(-3,4e0)],at=0,to=[0,-2]);\n}\n";
+        assert_eq!(written(list, document), text);
+        assert_eq!(written(list, text), text);
+    }
+
+    #[test]
+    fn tokens_are_counted() {
+        let list = b"fragment external(shape: extent[], to: extent[] = [-0,-1]) -> (y: tensor) \
+            fragment f(x: tensor) -> (y: tensor)";
+        let fills = |last: &str| {
+            let items = "-1,".repeat(1_350) + "1,1,";
+            let document = format!(
+                "version 1.0 graph g(a) -> (b) {{ a = external(shape = [{items}{last}]) b = f(a) }}"
+            );
+            let list = good_list(list).unwrap();
+            let (document, graph) = good_document(&list, document.as_bytes()).unwrap();
+            let text = canonical_text(&list, &document, &graph)?;
+            Some(lexer::lex(&text).unwrap().len() - 1)
+        };
+        assert_eq!(fills("1"), Some(4_096));
+        assert_eq!(fills("-0"), Some(4_096));
+        assert_eq!(fills("-1"), None);
     }
 
     #[test]

@@ -2,7 +2,7 @@
 
 use crate::number;
 use crate::token::{Span, Symbol, Symbols, Token};
-use crate::tree::{Item, Type};
+use crate::tree::{Item, Leaf, Type};
 
 /// Values of one text, held against the types of a list.
 #[derive(Clone, Copy)]
@@ -16,12 +16,9 @@ impl<'a> Fitting<'a> {
     /// their type: its leaves are names, and a name fits tensor alone.
     pub fn fits(self, value: &[Token], ty: Type) -> bool {
         match value {
-            [leaf] => ty.arrays == 0 && self.leaf_fits(*leaf, ty.item),
-            // Leaves and commas take turns up to the first bracket, which fits no item.
+            [leaf] => ty.arrays == 0 && self.leaf_fits(Leaf::plain(*leaf), ty.item),
             [open, items @ .., _] if ty.arrays == 1 && !is_tuple(ty.item) => {
-                let mut items = items.iter().step_by(2);
-                open.symbol == Symbol::OpenSquare
-                    && items.all(|leaf| self.leaf_fits(*leaf, ty.item))
+                open.symbol == Symbol::OpenSquare && self.leaves_fit(items, ty.item)
             }
             _ => self.rest_of_value(value, ty).is_some(),
         }
@@ -40,19 +37,16 @@ impl<'a> Fitting<'a> {
 
     /// The tokens behind the value that comes first, if it fits.
     fn rest_of_value(self, tokens: &[Token], ty: Type) -> Option<&[Token]> {
-        let (first, rest) = tokens.split_first()?;
         if ty.arrays > 0 {
-            return match first.symbol {
-                Symbol::OpenSquare => self.rest_of_array(rest, ty.of_items()),
-                _ => None,
-            };
+            let items = behind(tokens, Symbol::OpenSquare)?;
+            return self.rest_of_array(items, ty.of_items());
         }
-        match (ty.item, first.symbol) {
-            (Item::Tuple(types), Symbol::OpenRound) => {
-                behind(self.rest_of_items(rest, types)?, Symbol::CloseRound)
-            }
-            _ => self.leaf_fits(*first, ty.item).then_some(rest),
+        if let Item::Tuple(types) = ty.item {
+            let items = behind(tokens, Symbol::OpenRound)?;
+            return behind(self.rest_of_items(items, types)?, Symbol::CloseRound);
         }
+        let (leaf, rest) = Leaf::first(tokens)?;
+        self.leaf_fits(leaf, ty.item).then_some(rest)
     }
 
     /// The tokens behind an array whose opening bracket is taken, if its items fit.
@@ -78,10 +72,21 @@ impl<'a> Fitting<'a> {
         self.rest_of_value(tokens, *last)
     }
 
+    /// Whether the items of an array, with commas between them, are leaves that fit.
+    fn leaves_fit(self, mut items: &[Token], item: Item) -> bool {
+        while let Some((leaf, rest)) = Leaf::first(items) {
+            if !self.leaf_fits(leaf, item) {
+                return false;
+            }
+            items = rest.get(1..).unwrap_or_default();
+        }
+        true
+    }
+
     #[inline(always)]
-    fn leaf_fits(self, leaf: Token, item: Item) -> bool {
-        leaves(item).has(leaf.symbol)
-            && (item != Item::Extent || number::is_extent(leaf.bytes(self.text)))
+    fn leaf_fits(self, Leaf { negative, token }: Leaf, item: Item) -> bool {
+        leaves(item).has(token.symbol)
+            && (item != Item::Extent || number::is_extent(token.bytes(self.text), negative))
     }
 }
 
@@ -104,7 +109,7 @@ impl Type {
     }
 }
 
-/// The leaves that fit, of an extent if they are small enough.
+/// The leaves that fit, of an extent if they are within its bounds.
 fn leaves(item: Item) -> Symbols {
     const TENSOR: Symbols =
         Symbols::of(&[Symbol::Name, Symbol::Whole, Symbol::Real, Symbol::Truth]);

@@ -195,6 +195,7 @@ fn double(text: &[u8], start: usize) -> Result<(Symbol, usize), Fault> {
         (b'&', Some(b'&')) | (b'|', Some(b'|')) => (Symbol::Operator, 2),
         (b'&' | b'|', _) => return fault(codes::NO_TOKEN, start),
         (b'=', _) => (Symbol::Equals, 1),
+        (b'-', _) => (Symbol::Minus, 1),
         _ => (Symbol::Operator, 1),
     };
     Ok((symbol, start + length))

@@ -17,7 +17,9 @@ pub const WRITTEN_EXPONENT: i32 = 9_999;
 /// The greatest size of a reduced exponent.
 pub const REDUCED_EXPONENT: i32 = 999;
 /// The digits of the greatest extent.
-pub const EXTENT: &[u8] = b"2147483647";
+pub const GREATEST_EXTENT: &[u8] = b"2147483647";
+/// The digits of the least extent, which has a sign before them.
+pub const LEAST_EXTENT: &[u8] = b"2147483648";
 /// Brackets of arrays and tuples that are open at once.
 pub const BRACKETS: usize = 8;
 /// Operations of a list.

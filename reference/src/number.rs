@@ -104,9 +104,9 @@ impl Reduced<'_> {
     };
 
     /// The mantissa, which has at most 18 digits.
-    pub fn mantissa(self) -> u64 {
+    pub fn mantissa(self) -> i64 {
         let digits = self.digits.into_iter().flatten();
-        digits.fold(0, |value, digit| 10 * value + u64::from(digit - b'0'))
+        digits.fold(0, |value, digit| 10 * value + i64::from(digit - b'0'))
     }
 }
 
@@ -130,13 +130,23 @@ pub fn plain(whole: &[u8]) -> &[u8] {
     &whole[zeros(whole).min(whole.len() - 1)..]
 }
 
-/// Whether a whole number is small enough for an extent.
-pub fn is_extent(whole: &[u8]) -> bool {
-    let greatest = limits::EXTENT;
-    whole.len() < greatest.len() || {
+/// Whether a whole number, with a sign before it or not, is an extent.
+pub fn is_extent(whole: &[u8], negative: bool) -> bool {
+    let bound = if negative {
+        limits::LEAST_EXTENT
+    } else {
+        limits::GREATEST_EXTENT
+    };
+    whole.len() < bound.len() || {
         let digits = plain(whole);
-        digits.len() < greatest.len() || digits.len() == greatest.len() && digits <= greatest
+        digits.len() < bound.len() || digits.len() == bound.len() && digits <= bound
     }
+}
+
+/// Whether a number that is in range is zero.
+pub fn is_zero(number: &[u8]) -> bool {
+    let (mantissa, _) = mantissa_and_exponent(number);
+    mantissa.iter().all(|b| matches!(b, b'0' | b'.'))
 }
 
 /// The end of the digits from `from` on.
@@ -201,9 +211,9 @@ fn without_last([whole, fraction]: [&[u8]; 2], count: usize) -> [&[u8]; 2] {
 
 #[cfg(test)]
 mod tests {
-    use super::{is_extent, plain, Parts};
+    use super::{is_extent, is_zero, plain, Parts};
 
-    fn reduced(number: &str) -> Option<(u64, i32)> {
+    fn reduced(number: &str) -> Option<(i64, i32)> {
         let (parts, end) = Parts::at(number.as_bytes(), 0);
         assert_eq!(end, number.len());
         assert_eq!(parts.is_in_range(), parts.reduced().is_some());
@@ -242,13 +252,37 @@ mod tests {
 
     #[test]
     fn extents() {
-        assert!(is_extent(b"2147483647") && is_extent(b"0002147483647"));
-        assert!(is_extent(b"0") && is_extent(b"00000000000000") && is_extent(b"999999999"));
-        assert!(!is_extent(b"2147483648") && !is_extent(b"02147483648"));
-        assert!(!is_extent(b"9999999999") && !is_extent(b"10000000000"));
+        let signs = |whole| [false, true].map(|negative| is_extent(whole, negative));
+        for whole in [&b"0"[..], b"00000000000000", b"999999999", b"1000000000"] {
+            assert_eq!(signs(whole), [true, true]);
+        }
+        for whole in [&b"2147483647"[..], b"0002147483647"] {
+            assert_eq!(signs(whole), [true, true]);
+        }
+        for whole in [&b"2147483648"[..], b"0002147483648"] {
+            assert_eq!(signs(whole), [false, true]);
+        }
+        for whole in [
+            &b"2147483649"[..],
+            b"02147483649",
+            b"9999999999",
+            b"10000000000",
+        ] {
+            assert_eq!(signs(whole), [false, false]);
+        }
         assert_eq!(
             [plain(b"000"), plain(b"01"), plain(b"10")],
             [&b"0"[..], b"1", b"10"]
         );
+    }
+
+    #[test]
+    fn zeros() {
+        for number in ["0", "000", "0.0", "0e5", "00.000E-9999"] {
+            assert!(is_zero(number.as_bytes()), "{number}");
+        }
+        for number in ["1", "10", "0.01", "1e0", "100.0e-10"] {
+            assert!(!is_zero(number.as_bytes()), "{number}");
+        }
     }
 }

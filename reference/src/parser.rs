@@ -11,7 +11,8 @@ use crate::names::Names;
 use crate::token::{Span, Symbol, Symbols, Token};
 use crate::tree::{Argument, Call, Document, Item, List, Operation, Parameter, Type};
 
-/// What values may hold where they stand: defaults, left sides and arguments.
+/// What values may hold where they stand: defaults, left sides and arguments. Where
+/// numbers may stand, a sign may stand before them.
 const LITERALS: Symbols =
     Symbols::of(&[Symbol::Whole, Symbol::Real, Symbol::String, Symbol::Truth]);
 const NAMES: Symbols = Symbols::of(&[Symbol::Name]);
@@ -300,8 +301,8 @@ impl<'t> Reader<'t> {
         }
     }
 
-    /// A value with these leaves. Arrays and tuples are in a function of their
-    /// own, so that leaves are read without a call.
+    /// A value with these leaves. What is more than one token is in a function of
+    /// its own, so that the others are read without a call.
     #[inline(always)]
     fn value(&mut self, leaves: Symbols) -> Result<(), Fault> {
         if leaves.has(self.next()) {
@@ -311,6 +312,7 @@ impl<'t> Reader<'t> {
         self.compound(leaves)
     }
 
+    /// A number behind its sign, where literals may stand; an array or a tuple.
     fn compound(&mut self, leaves: Symbols) -> Result<(), Fault> {
         match self.next() {
             Symbol::OpenSquare => {
@@ -319,6 +321,10 @@ impl<'t> Reader<'t> {
                     self.values(leaves)?;
                 }
                 self.close(Symbol::CloseSquare)
+            }
+            Symbol::Minus if leaves.has(Symbol::Whole) => {
+                self.at += 1;
+                self.number().map(drop)
             }
             Symbol::OpenRound => {
                 self.open()?;

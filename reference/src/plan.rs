@@ -4,7 +4,7 @@ use crate::binding::Binding;
 use crate::graph::Graph;
 use crate::number::{self, Parts};
 use crate::token::{Span, Symbol, Token};
-use crate::tree::{self, Document, Item, List, Type};
+use crate::tree::{self, Document, Item, Leaf, List, Type};
 
 /// A document's plan under an operation list. Spacing, spelling, and whether a
 /// value was positional, named or a default are no part of it.
@@ -30,10 +30,10 @@ struct Call<'a> {
 #[derive(Debug, PartialEq, Eq)]
 enum Value<'a> {
     Name(&'a [u8]),
-    /// A number at extent.
-    Extent(u64),
-    /// A number at scalar or tensor: its reduced mantissa and exponent.
-    Number(u64, i32),
+    /// A number at extent. Minus zero is zero.
+    Extent(i64),
+    /// A number at scalar or tensor: its reduced mantissa, with the sign, and exponent.
+    Number(i64, i32),
     Logical(bool),
     /// A string's content.
     String(&'a [u8]),
@@ -156,20 +156,21 @@ impl<'a> Reading<'a> {
     }
 
     fn leaf(&mut self, item: Item) -> Option<Value<'a>> {
-        let (leaf, rest) = self.rest.split_first()?;
+        let (Leaf { negative, token }, rest) = Leaf::first(self.rest)?;
         self.rest = rest;
-        let bytes = leaf.bytes(self.text);
-        match (leaf.symbol, item) {
+        let bytes = token.bytes(self.text);
+        let signed = |size: i64| if negative { -size } else { size };
+        match (token.symbol, item) {
             (Symbol::Name, Item::Tensor) => Some(Value::Name(bytes)),
-            (Symbol::Whole, Item::Extent) if number::is_extent(bytes) => {
+            (Symbol::Whole, Item::Extent) if number::is_extent(bytes, negative) => {
                 let digits = number::plain(bytes).iter();
-                let value = digits.fold(0, |value, digit| 10 * value + u64::from(digit - b'0'));
-                Some(Value::Extent(value))
+                let size = digits.fold(0, |size, digit| 10 * size + i64::from(digit - b'0'));
+                Some(Value::Extent(signed(size)))
             }
             (Symbol::Whole | Symbol::Real, Item::Scalar | Item::Tensor) => {
                 let (parts, _) = Parts::at(bytes, 0);
                 let reduced = parts.reduced()?;
-                Some(Value::Number(reduced.mantissa(), reduced.exponent))
+                Some(Value::Number(signed(reduced.mantissa()), reduced.exponent))
             }
             (Symbol::Truth, Item::Logical | Item::Tensor) => Some(Value::Logical(bytes == b"true")),
             (Symbol::String, Item::String) => Some(Value::String(&bytes[1..bytes.len() - 1])),
@@ -181,5 +182,44 @@ impl<'a> Reading<'a> {
     fn take(&mut self, symbol: Symbol) -> Option<()> {
         let (first, rest) = self.rest.split_first()?;
         (first.symbol == symbol).then(|| self.rest = rest)
+    }
+}
+
+#[cfg(test)]
+mod tests {
+    use crate::same_plan;
+
+    #[test]
+    fn signs() {
+        let list = b"fragment external(shape: extent[]) -> (output: tensor) \
+            fragment shift(x: tensor, step: extent = -1, by: scalar = 0) -> (y: tensor)";
+        let same = |one: &str, other: &str| {
+            let [one, other] = [one, other].map(|arguments| {
+                format!("version 1.0 graph g(a) -> (b) {{ a = external(shape = [1]) b = shift({arguments}) }}")
+            });
+            same_plan(list, one.as_bytes(), other.as_bytes())
+        };
+        for (one, other) in [
+            ("a, step = -0", "a, step = 0"),
+            ("a, step = - # c\n01", "a"),
+            ("a, by = -0.0e5", "a"),
+            ("a, by = -10e-1", "a, by = -1"),
+            ("-0", "0.0"),
+            (
+                "-2147483648, step = -2147483648",
+                "-2147483648e0, step = -02147483648",
+            ),
+        ] {
+            assert!(same(one, other), "{one}; {other}");
+        }
+        for (one, other) in [
+            ("a, step = 1", "a"),
+            ("a, by = -1", "a, by = 1"),
+            ("-1", "1"),
+            ("-1", "-10"),
+            ("a, by = -1e-1", "a, by = -1e1"),
+        ] {
+            assert!(!same(one, other), "{one}; {other}");
+        }
     }
 }

@@ -32,6 +32,9 @@ pub enum Symbol {
     StringType,
     /// A keyword that flat texts have no place for.
     Reserved,
+    /// `-`, which may stand before a number.
+    Minus,
+    /// Any other operator.
     Operator,
     OpenRound,
     CloseRound,
@@ -79,7 +82,7 @@ impl Symbol {
             Symbol::String => 4,
             Symbol::Truth => 5,
             symbol if symbol as u8 <= Symbol::Reserved as u8 => 6,
-            Symbol::Operator => 7,
+            Symbol::Minus | Symbol::Operator => 7,
             _ => 8,
         }
     }

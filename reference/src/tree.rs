@@ -92,6 +92,15 @@ pub struct Call {
     pub arguments: Span,
 }
 
+/// A leaf of a value: a name, a string, a truth value, or a number with a sign
+/// before it or none. With a sign it is two tokens.
+#[derive(Clone, Copy)]
+pub struct Leaf {
+    pub negative: bool,
+    /// The name or the literal without its sign.
+    pub token: Token,
+}
+
 /// An argument; it is positional without a label.
 pub struct Argument {
     pub label: Option<Token>,
@@ -101,6 +110,31 @@ pub struct Argument {
 impl Operation {
     pub fn parameters<'l>(&self, list: &'l List) -> &'l [Parameter] {
         self.parameters.of(&list.parameters)
+    }
+}
+
+impl Leaf {
+    /// A leaf of one token.
+    pub fn plain(token: Token) -> Leaf {
+        Leaf {
+            negative: false,
+            token,
+        }
+    }
+
+    /// The leaf that comes first, and the tokens behind it. A bracket is taken for
+    /// a leaf that fits nothing.
+    pub fn first(tokens: &[Token]) -> Option<(Leaf, &[Token])> {
+        let (first, rest) = tokens.split_first()?;
+        if first.symbol != Symbol::Minus {
+            return Some((Leaf::plain(*first), rest));
+        }
+        let (number, rest) = rest.split_first()?;
+        let leaf = Leaf {
+            negative: true,
+            token: *number,
+        };
+        Some((leaf, rest))
     }
 }
 

@@ -107,6 +107,9 @@ const EXAMPLES_LIST: Text = Once(include_str!("../../examples/declarations.nnef"
 const CANDIDATES: Text = Once(include_str!("../../examples/candidates.nnef"));
 const CANDIDATES_RESPELT: Text = Once(include_str!("../../examples/candidates_respelt.nnef"));
 const CANDIDATES_CANONICAL: Text = Once(include_str!("../../examples/candidates.canonical"));
+const NEIGHBOURS: Text = Once(include_str!("../../examples/neighbours.nnef"));
+const NEIGHBOURS_RESPELT: Text = Once(include_str!("../../examples/neighbours_respelt.nnef"));
+const NEIGHBOURS_CANONICAL: Text = Once(include_str!("../../examples/neighbours.canonical"));
 
 /// The list and the documents of the source's example.
 const SOURCE_LIST: Text = Once(
@@ -129,6 +132,14 @@ const DEFAULTS: Text = Once(
      fragment f(a: scalar = 0.50, b: tensor = 02, c: extent = 007, d: string = \"it's\", e: string = \"'\", \
      g: string = \"\", h: logical[][] = [[], [true, false]], i: (tensor, (extent, scalar[])) = (true, (00, [1e2, 3])), \
      j: tensor[] = []) -> (y: tensor)",
+);
+
+/// Defaults with signs.
+const SHIFTS: Text = Once(
+    "fragment external(shape: extent[]) -> (output: tensor) \
+     fragment shift(x: tensor, step: extent = -1) -> (y: tensor) \
+     fragment shifts(x: tensor = - # c\n1.50, steps: extent[] = [-1, 2, -0], at: (extent, (scalar, tensor[]))[] = \
+     [(-0, (-0.0, [-0e5, - 20])), (-2147483648, (- 2147483648, []))]) -> (y: tensor)",
 );
 
 /// An operation of which 31 parameters have a default.
@@ -161,6 +172,9 @@ pub const CASES: &[Case] = &[
     under(EXAMPLES_LIST, CANDIDATES, CANDIDATES_CANONICAL),
     under(EXAMPLES_LIST, CANDIDATES_RESPELT, CANDIDATES_CANONICAL),
     under(EXAMPLES_LIST, CANDIDATES_CANONICAL, CANDIDATES_CANONICAL),
+    under(EXAMPLES_LIST, NEIGHBOURS, NEIGHBOURS_CANONICAL),
+    under(EXAMPLES_LIST, NEIGHBOURS_RESPELT, NEIGHBOURS_CANONICAL),
+    under(EXAMPLES_LIST, NEIGHBOURS_CANONICAL, NEIGHBOURS_CANONICAL),
     // Spacing, comments and semicolons are no part of a plan.
     writes(Body("z=scale(x=a,by=5e-1)"), SCALED),
     writes(Body("z=scale(x=a,by=5e-1);"), SCALED),
@@ -198,6 +212,47 @@ pub const CASES: &[Case] = &[
     writes(Body("z,b=split(a,parts=000)"), CanonicalBody("z,b=split(x=a,parts=0);")),
     writes(Body("z,b=split(a,parts=00002147483647)"), CanonicalBody("z,b=split(x=a,parts=2147483647);")),
     writes(Body("z=pads(a,pad=[(02,02),(2,2.0)])"), CanonicalBody("z=pads(x=a,pad=[(2,2e0),(2,2e0)]);")),
+    // A sign stands directly before its number.
+    writes(Body("z=scale(a,by=-1)"), CanonicalBody("z=scale(x=a,by=-1e0);")),
+    writes(Body("z=scale(a,by=- 1)"), CanonicalBody("z=scale(x=a,by=-1e0);")),
+    writes(Body("z=scale(a,by=-#c\n1)"), CanonicalBody("z=scale(x=a,by=-1e0);")),
+    writes(Body("z=scale(a,by=-10e-1)"), CanonicalBody("z=scale(x=a,by=-1e0);")),
+    writes(Body("z=scale(a,by=-001.000)"), CanonicalBody("z=scale(x=a,by=-1e0);")),
+    writes(Body("z=scale(a,by=1)"), CanonicalBody("z=scale(x=a,by=1e0);")),
+    writes(Body("z=scale(a,by=-1.5)"), CanonicalBody("z=scale(x=a,by=-15e-1);")),
+    writes(Body("z=scale(a,by=-0.50)"), CanonicalBody("z=scale(x=a,by=-5e-1);")),
+    writes(Body("z=scale(a,by=-20)"), CanonicalBody("z=scale(x=a,by=-2e1);")),
+    writes(Body("z=scale(a,by=-1e999)"), CanonicalBody("z=scale(x=a,by=-1e999);")),
+    writes(Body("z=scale(a,by=-0.1e-998)"), CanonicalBody("z=scale(x=a,by=-1e-999);")),
+    writes(Body("z=scale(a,by=-999999999999999999)"), CanonicalBody("z=scale(x=a,by=-999999999999999999e0);")),
+    writes(Body("z=scale(a,by=-123456789.012345678)"), CanonicalBody("z=scale(x=a,by=-123456789012345678e-9);")),
+    writes(Body("z=scale(a,by=-2147483648)"), CanonicalBody("z=scale(x=a,by=-2147483648e0);")),
+    writes(Body("z=scale(a,by=-2147483649)"), CanonicalBody("z=scale(x=a,by=-2147483649e0);")),
+    writes(Body("z,b=split(a,parts=-1)"), CanonicalBody("z,b=split(x=a,parts=-1);")),
+    writes(Body("z,b=split(a,parts=- 1)"), CanonicalBody("z,b=split(x=a,parts=-1);")),
+    writes(Body("z,b=split(a,parts=-\n# c\n\t01)"), CanonicalBody("z,b=split(x=a,parts=-1);")),
+    writes(Body("z,b=split(a,parts=-20)"), CanonicalBody("z,b=split(x=a,parts=-20);")),
+    writes(Body("z,b=split(a,parts=-2147483648)"), CanonicalBody("z,b=split(x=a,parts=-2147483648);")),
+    writes(Body("z,b=split(a,parts=-00002147483648)"), CanonicalBody("z,b=split(x=a,parts=-2147483648);")),
+    writes(Body("z,b=split(a,parts=-2147483647)"), CanonicalBody("z,b=split(x=a,parts=-2147483647);")),
+    writes(Body("z=both(-2,-2.50)"), CanonicalBody("z=both(x=-2e0,y=-25e-1);")),
+    writes(Body("z=both(y=-1,x=a)"), CanonicalBody("z=both(x=a,y=-1e0);")),
+    writes(Body("[z]=items([-1,a,- 2.0,1,true])"), CanonicalBody("[z]=items(x=[-1e0,a,-2e0,1e0,true]);")),
+    writes(Body("z=pads(a,pad=[(-02,-02),(2,-2.0),(-2,2)])"), CanonicalBody("z=pads(x=a,pad=[(-2,-2e0),(2,-2e0),(-2,2e0)]);")),
+    writes(Body("z=late(x=(-1,-1),y=-1)"), CanonicalBody("z=late(x=(-1e0,-1),y=-1e0);")),
+    writes(Body("(z,b),c=nest((-1,[a,-1,1]))"), CanonicalBody("(z,b),c=nest(x=(-1e0,[a,-1e0,1e0]));")),
+    // Minus zero is zero.
+    writes(Body("z=scale(a,by=-0)"), CanonicalBody("z=scale(x=a,by=0e0);")),
+    writes(Body("z=scale(a,by=-0.0)"), CanonicalBody("z=scale(x=a,by=0e0);")),
+    writes(Body("z=scale(a,by=-0.0e5)"), CanonicalBody("z=scale(x=a,by=0e0);")),
+    writes(Body("z=scale(a,by=- 000E-9999)"), CanonicalBody("z=scale(x=a,by=0e0);")),
+    writes(Body("z,b=split(a,parts=-0)"), CanonicalBody("z,b=split(x=a,parts=0);")),
+    writes(Body("z,b=split(a,parts=-000)"), CanonicalBody("z,b=split(x=a,parts=0);")),
+    writes(Body("z,b=split(a,parts=- 0)"), CanonicalBody("z,b=split(x=a,parts=0);")),
+    writes(Body("z=both(-0,-0.0)"), CanonicalBody("z=both(x=0e0,y=0e0);")),
+    writes(Body("[z]=items([-0,0,-0.0e5,-1])"), CanonicalBody("[z]=items(x=[0e0,0e0,0e0,-1e0]);")),
+    writes(Body("z=pads(a,pad=[(-0,-0),(0,-0.0)])"), CanonicalBody("z=pads(x=a,pad=[(0,0e0),(0,0e0)]);")),
+    writes(Body("z=late(x=(-0,-0),y=a)"), CanonicalBody("z=late(x=(0e0,0),y=a);")),
     // Strings.
     writes(Body("z=label(a,name='s',at=1)"), CanonicalBody("z=label(x=a,name='s',flag=true,at=1);")),
     writes(Body("z=label(a,name=\"s\",at=1)"), CanonicalBody("z=label(x=a,name='s',flag=true,at=1);")),
@@ -222,6 +277,14 @@ pub const CASES: &[Case] = &[
     )),
     under(DEFAULTS, Body("z=f(j=[a,a],i=(a,(1,[])),h=[[]],g='\"',e='e',d='it',c=0,b=a,a=0)"), CanonicalBody(
         "z=f(a=0e0,b=a,c=0,d='it',e='e',g='\"',h=[[]],i=(a,(1,[])),j=[a,a]);",
+    )),
+    under(SHIFTS, Body("z=shift(a)"), CanonicalBody("z=shift(x=a,step=-1);")),
+    under(SHIFTS, Body("z=shift(a,step=-01)"), CanonicalBody("z=shift(x=a,step=-1);")),
+    under(SHIFTS, Body("z=shift(a,step=1)"), CanonicalBody("z=shift(x=a,step=1);")),
+    under(SHIFTS, Body("z=shift(-1,step=-0)"), CanonicalBody("z=shift(x=-1e0,step=0);")),
+    under(SHIFTS, Body("b=shifts(a)z=shifts(steps=[])"), CanonicalBody(
+        "b=shifts(x=a,steps=[-1,2,0],at=[(0,(0e0,[0e0,-2e1])),(-2147483648,(-2147483648e0,[]))]);\n\
+         z=shifts(x=-15e-1,steps=[],at=[(0,(0e0,[0e0,-2e1])),(-2147483648,(-2147483648e0,[]))]);",
     )),
     under(WIDE, Body("z=wide(a)"), Pieces(&[
         ("version 1.0\ngraph g(a)->(z)\n{\na=external(shape=[1]);\nz=wide(x=a", 1), (",p%=%", 31), (");\n}\n", 1),
@@ -276,6 +339,31 @@ pub const CASES: &[Case] = &[
     refused(25, EXAMPLE_LIST, Pieces(&[
         ("version 1.0 graph ", 1), ("g", 10), ("(a)->(z){a=external(shape=[2147483647", 1), (",2147483647", 1_481), ("])z=scale(a)}", 1),
     ])),
+    // 25: a sign is a byte and a token of the canonical text, and minus zero has none.
+    sized(16_384, 3_000, under(
+        EXAMPLE_LIST,
+        Pieces(&[("version 1.0 graph ", 1), ("g", 8), ("(a)->(z){a=external(shape=[-2147483648", 1), (",2147483647", 1_481), ("])z=scale(a)}", 1)]),
+        Pieces(&[
+            ("version 1.0\ngraph ", 1), ("g", 8), ("(a)->(z)\n{\na=external(shape=[-2147483648", 1), (",2147483647", 1_481),
+            ("]);\nz=scale(x=a,by=1e0);\n}\n", 1),
+        ]),
+    )),
+    refused(25, EXAMPLE_LIST, Pieces(&[
+        ("version 1.0 graph ", 1), ("g", 9), ("(a)->(z){a=external(shape=[-2147483648", 1), (",2147483647", 1_481), ("])z=scale(a)}", 1),
+    ])),
+    sized(4_133, 4_096, under(
+        OPERATIONS,
+        Pieces(&[("version 1.0 graph g(a)->(z){a=external(shape=[-0", 1), (",1", 2_029), ("])z=pads(a)}", 1)]),
+        Pieces(&[("version 1.0\ngraph g(a)->(z)\n{\na=external(shape=[0", 1), (",1", 2_029), ("]);\nz=pads(x=a,pad=[]);\n}\n", 1)]),
+    )),
+    refused(25, OPERATIONS, Pieces(&[("version 1.0 graph g(a)->(z){a=external(shape=[-1", 1), (",1", 2_029), ("])z=pads(a)}", 1)])),
+    sized(4_133, 4_096, under(
+        OPERATIONS,
+        Pieces(&[("version 1.0 graph g(a)->(z){a=external(shape=[1", 1), (",-1", 1_352), (",-0])z=pads(a)}", 1)]),
+        Pieces(&[("version 1.0\ngraph g(a)->(z)\n{\na=external(shape=[1", 1), (",-1", 1_352), (",0]);\nz=pads(x=a,pad=[]);\n}\n", 1)]),
+    )),
+    refused(25, OPERATIONS, Pieces(&[("version 1.0 graph g(a)->(z){a=external(shape=[1", 1), (",-1", 1_353), ("])z=pads(a)}", 1)])),
+    refused(25, SHIFTS, Pieces(&[("version 1.0 graph g(a)->(z0){a=external(shape=[])", 1), ("z%=shifts(a)", 120), ("}", 1)])),
     // 25: more than 4,096 tokens.
     sized(4_133, 4_096, under(
         OPERATIONS,
@@ -317,6 +405,12 @@ pub const CASES: &[Case] = &[
     refused(16, OPERATIONS, Body("z=scale(a,@2)")),
     refused(17, OPERATIONS, Body("z=scale(a,@x=a)")),
     refused(18, OPERATIONS, Body("z,b=split(a,parts=@2147483648)")),
+    refused(18, OPERATIONS, Body("z,b=split(a,parts=@-2147483649)")),
+    refused(16, OPERATIONS, Body("z=scale(a,@-2)")),
+    refused(14, Once("fragment f(x: extent = @-1.5) -> (y: tensor)"), Once("$")),
+    refused(9, OPERATIONS, Body("z=scale(-@a)")),
+    refused(9, OPERATIONS, Body("[@-1]=scale(a)")),
+    refused(9, EXAMPLE_LIST, Once("version @-1.0")),
     unbound(3, Body("z=@label(a,name='s')")),
     refused(20, OPERATIONS, Body("@z=split(a,parts=2)")),
     refused(21, OPERATIONS, Body("z=scale(a)@z=scale(a)")),

@@ -1,6 +1,7 @@
 //! Changes to what a good document says.
 
 use crate::good::{self, Names};
+use crate::literal;
 use crate::model::{operation, Argument, Document, Operation, Type, Value};
 use crate::plan::plan;
 use crate::rng::Rng;
@@ -20,7 +21,7 @@ pub fn changed(rng: &mut Rng, list: &[Operation], document: &Document) -> Docume
 /// A change of one thing that leaves the document good, and perhaps as it was.
 fn change(rng: &mut Rng, list: &[Operation], document: &mut Document) {
     let place = rng.below(document.calls.len());
-    match rng.below(12) {
+    match rng.below(14) {
         0 => document.name = Names::default().fresh(rng),
         1 => exchange(rng, &mut document.inputs),
         2 => exchange(rng, &mut document.outputs),
@@ -30,6 +31,7 @@ fn change(rng: &mut Rng, list: &[Operation], document: &mut Document) {
         6 => drop_last_call(document),
         7 => add_left_item(rng, list, document, place),
         8 => call_twin(rng, list, document, place),
+        9 | 10 => change_sign(rng, document, place),
         _ => change_value(rng, list, document, place),
     }
 }
@@ -135,6 +137,29 @@ fn change_value(rng: &mut Rng, list: &[Operation], document: &mut Document, plac
             label: Some(parameter.name.clone()),
             value,
         }),
+    }
+}
+
+/// Gives a number of a call the other sign, if one of its literals is picked that may have it.
+fn change_sign(rng: &mut Rng, document: &mut Document, place: usize) {
+    let mut literals = Vec::new();
+    for argument in &mut document.calls[place].arguments {
+        add_literals(&mut argument.value, &mut literals);
+    }
+    if !literals.is_empty() {
+        let place = rng.below(literals.len());
+        *literals[place] = literal::negated(literals[place]);
+    }
+}
+
+/// Adds the literals of a value to these.
+fn add_literals<'v>(value: &'v mut Value, all: &mut Vec<&'v mut String>) {
+    match value {
+        Value::Name(_) => {}
+        Value::Literal(literal) => all.push(literal),
+        Value::Array(items) | Value::Tuple(items) => {
+            items.iter_mut().for_each(|item| add_literals(item, all));
+        }
     }
 }
 

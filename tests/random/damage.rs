@@ -14,9 +14,9 @@ pub const SYMBOLS: &[u8] = b"0019.eE+-<>=!&|#\"' \n\t_axin()[]{},;:*/^";
 const WORDS: &[&str] = &[
     "(", ")", "[", "]", "(", ")", "[", "]", "{", "}", ":", "=", ",", ";", "->", ",", "=", "-", "==", "<",
     "graph", "fragment", "version", "tensor", "extent", "scalar", "logical", "string", "in", "shape_of",
-    "a", "x", "external", "1", "1.0", "0.5", "2147483648", "'s'", "true", "false",
+    "a", "x", "external", "1", "1.0", "0.5", "2147483648", "2147483649", "'s'", "true", "false", "-", "+",
 ];
-const VERSIONS: &[&str] = &["1", "1.00", "01.0", "1.0e0", "1e0", "2.0", "0.1"];
+const VERSIONS: &[&str] = &["1", "1.00", "01.0", "1.0e0", "1e0", "2.0", "0.1", "-1.0"];
 
 /// One edit of a list: what it holds is lost, doubled, moved or changed.
 pub fn damage_list(rng: &mut Rng, list: &mut Vec<Operation>) {
@@ -56,6 +56,7 @@ fn damage_left(rng: &mut Rng, call: &mut Call) {
     match &mut call.left {
         Value::Array(items) if rng.percent(50) => edit(rng, items),
         Value::Tuple(items) if items.len() > 2 => edit(rng, items),
+        left if rng.percent(20) => *left = Value::literal("-1"),
         left => *left = Value::Array(vec![left.clone()]),
     }
 }
@@ -105,10 +106,11 @@ pub fn exchange_word(rng: &mut Rng, words: &mut [Word]) {
     words[place].spelling = rng.pick(&same).spelling.clone();
 }
 
-/// What a word is by its first byte.
+/// What a word is, mostly by its first byte.
 fn sort(word: &Word) -> u8 {
     match word.spelling.as_bytes()[0] {
         b'0'..=b'9' | b'\'' | b'"' => b'0',
+        _ if word.spelling == "->" => b'>',
         _ if matches!(&word.spelling[..], "true" | "false") => b'0',
         _ if good::BASIC.contains(&&word.spelling[..]) => b't',
         b'a'..=b'z' | b'A'..=b'Z' | b'_' => b'a',
@@ -116,8 +118,12 @@ fn sort(word: &Word) -> u8 {
     }
 }
 
-/// One edit of words: one is changed, put in, taken out or doubled, or two change places.
+/// One edit of words: one is changed, put in, taken out or doubled, or two change places;
+/// or it is one of signs.
 pub fn damage_words(rng: &mut Rng, words: &mut Vec<Word>) {
+    if rng.percent(20) {
+        return damage_signs(rng, words);
+    }
     let place = rng.below(words.len() + 1);
     let word = Word::plain(rng.pick(WORDS));
     match rng.below(6) {
@@ -128,6 +134,36 @@ pub fn damage_words(rng: &mut Rng, words: &mut Vec<Word>) {
         4 if place + 1 < words.len() => words.swap(place, place + 1),
         _ if rng.percent(20) => words.truncate(place),
         _ => words.push(word),
+    }
+}
+
+/// One edit of signs: one is put in, mostly before a number, taken out, doubled or moved.
+fn damage_signs(rng: &mut Rng, words: &mut Vec<Word>) {
+    let places = |words: &[Word], sort_of: u8| -> Vec<usize> {
+        let places = 0..words.len();
+        places
+            .filter(|place| sort(&words[*place]) == sort_of)
+            .collect()
+    };
+    let [signs, numbers] = [b'-', b'0'].map(|sort_of| places(words, sort_of));
+    let anywhere = rng.below(words.len() + 1);
+    if signs.is_empty() || rng.percent(40) {
+        let before_number = !numbers.is_empty() && rng.percent(70);
+        let place = if before_number {
+            rng.pick(&numbers)
+        } else {
+            anywhere
+        };
+        return words.insert(place, Word::plain("-"));
+    }
+    let place = rng.pick(&signs);
+    match rng.below(3) {
+        0 => drop(words.remove(place)),
+        1 => words.insert(place, words[place].clone()),
+        _ => {
+            let sign = words.remove(place);
+            words.insert(anywhere.min(words.len()), sign);
+        }
     }
 }
 

@@ -20,6 +20,7 @@ const AROUND: &[Around] = &[Around::Array, Around::TupleAfter, Around::TupleBefo
 pub fn deep(rng: &mut Rng) -> (Vec<Operation>, Document) {
     let depth = rng.between(6, 10);
     let sorts = rng.between(1, 3);
+    let literal = rng.pick(&["1", "-1", "-0"]);
     let brackets = rng.picks(&AROUND[..sorts], depth);
     let mut similar = || {
         let mut brackets = brackets.clone();
@@ -34,7 +35,7 @@ pub fn deep(rng: &mut Rng) -> (Vec<Operation>, Document) {
     let parameter = Parameter {
         name: "x".to_string(),
         ty: deep_type(&similar()),
-        default: Some(deep_value(&similar(), || Value::literal("1"))),
+        default: Some(deep_value(&similar(), || Value::literal(literal))),
     };
     let list = vec![
         Operation {
@@ -64,7 +65,7 @@ pub fn deep(rng: &mut Rng) -> (Vec<Operation>, Document) {
                 operation: "external".to_string(),
                 arguments: vec![Argument {
                     label: Some("x".to_string()),
-                    value: deep_value(&similar(), || Value::literal("1")),
+                    value: deep_value(&similar(), || Value::literal(literal)),
                 }],
             },
             Call {

@@ -14,8 +14,10 @@ const WHOLE: &[&str] = &[
 ];
 #[rustfmt::skip]
 const GREAT: &[&str] = &[
-    "2147483648", "4294967296", "999999999999999999", "21474836470", "18000000000000000000000",
+    "2147483648", "2147483649", "4294967296", "999999999999999999", "21474836470", "18000000000000000000000",
 ];
+/// The least extent, without its sign.
+const LEAST: &[&str] = &["2147483648", "000002147483648"];
 #[rustfmt::skip]
 const REAL: &[&str] = &[
     "0.0", "0.50", "1.0", "2e0", "1E-5", "3.25e+2", "1e999", "0.000e9999", "120.00", "2147483647.0",
@@ -104,7 +106,7 @@ pub fn value(rng: &mut Rng, ty: &Type, identifiers: &[String]) -> Value {
         Type::Basic("tensor") if !identifiers.is_empty() && rng.percent(75) => {
             Value::Name(identifiers[rng.below(identifiers.len())].clone())
         }
-        Type::Basic(basic) => Value::literal(literal(rng, basic)),
+        Type::Basic(basic) => Value::Literal(literal(rng, basic)),
         Type::Array(item) => {
             let count = rng.pick(&[0, 1, 1, 2, 3]);
             Value::Array((0..count).map(|_| value(rng, item, identifiers)).collect())
@@ -116,17 +118,22 @@ pub fn value(rng: &mut Rng, ty: &Type, identifiers: &[String]) -> Value {
     }
 }
 
-/// A literal that fits a basic type.
-fn literal(rng: &mut Rng, basic: &str) -> &'static str {
+/// A literal that fits a basic type. Numbers often have a sign.
+fn literal(rng: &mut Rng, basic: &str) -> String {
     let kinds: &[&[&str]] = match basic {
-        "extent" => &[WHOLE],
+        "extent" => &[WHOLE, WHOLE, WHOLE, LEAST],
         "scalar" => &[WHOLE, GREAT, REAL],
         "logical" => &[&["true", "false"]],
         "string" => &[STRINGS],
         _ => &[WHOLE, GREAT, REAL, &["true", "false"]],
     };
     let kind = rng.pick(kinds);
-    rng.pick(kind)
+    let spelling = rng.pick(kind);
+    let is_number = spelling.as_bytes()[0].is_ascii_digit();
+    if kind == LEAST || is_number && rng.percent(40) {
+        return format!("-{spelling}");
+    }
+    spelling.to_string()
 }
 
 /// A good document under a list of this module.

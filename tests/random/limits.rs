@@ -32,18 +32,16 @@ fn near_bytes(rng: &mut Rng, bytes: usize) -> (Vec<Operation>, Document) {
 
 /// A canonical text of so many tokens.
 fn near_tokens(rng: &mut Rng, tokens: usize) -> (Vec<Operation>, Document) {
-    let default = rng.between(80, 100);
-    let list = list(Type::array(Type::Basic("extent")), array(default));
-    let size = |calls| canonical_text(&list, &document(calls, array(1))).tokens;
+    let default = array(rng.between(80, 100), rng.pick(&["1", "-1", "-0"]));
+    let list = list(Type::array(Type::Basic("extent")), default);
+    let size = |calls| canonical_text(&list, &document(calls, array(1, "1"))).tokens;
     let each = size(1) - size(0);
     let rest = tokens - size(0);
-    // An item more takes two tokens, and a call an odd number of them.
-    let mut calls = rest / each;
-    if (rest - calls * each) % 2 == 1 {
-        calls -= 1;
-    }
-    let document = document(calls, array(1 + (rest - calls * each) / 2));
-    (list, document)
+    // An item more takes two tokens, and a sign one.
+    let (calls, rest) = (rest / each, rest % each);
+    let mut items = vec![Value::literal("1"); rest / 2];
+    items.push(Value::literal(if rest % 2 == 1 { "-1" } else { "-0" }));
+    (list, document(calls, Value::Array(items)))
 }
 
 /// `external`, and an operation with a default of this type.
@@ -79,7 +77,7 @@ fn document(calls: usize, last: Value) -> Document {
         arguments,
     };
     let a = || argument(None, Value::name("a"));
-    let shape = argument(Some("shape"), array(1));
+    let shape = argument(Some("shape"), array(1, "1"));
     let mut all = vec![call("a", "external", vec![shape])];
     all.extend((0..calls).map(|n| call(&format!("f{n:03}"), "fill", vec![a()])));
     all.push(call("z", "fill", vec![a(), argument(Some("y"), last)]));
@@ -96,6 +94,6 @@ fn string(bytes: usize) -> Value {
     Value::Literal(format!("'{}'", "s".repeat(bytes)))
 }
 
-fn array(items: usize) -> Value {
-    Value::Array(vec![Value::literal("1"); items])
+fn array(items: usize, item: &str) -> Value {
+    Value::Array(vec![Value::literal(item); items])
 }

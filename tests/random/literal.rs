@@ -5,24 +5,75 @@ use crate::rng::Rng;
 /// The longest number.
 const NUMBER_BYTES: usize = 64;
 
-/// A literal's canonical spelling, read at a basic type.
+/// The digits of the least extent, which are none without their sign.
+const LEAST_EXTENT: &str = "2147483648";
+
+/// A literal's canonical spelling, read at a basic type. Zero has no sign.
 pub fn canonical(literal: &str, basic: &str) -> String {
-    match literal.as_bytes()[0] {
-        b'0'..=b'9' if basic == "extent" => significant(literal).to_string(),
-        b'0'..=b'9' => Decimal::of(literal).canonical(),
-        b'\'' | b'"' => quoted(content(literal), '\''),
+    let (sign, rest) = signed(literal);
+    match rest.as_bytes()[0] {
+        b'0'..=b'9' => {
+            let spelling = canonical_number(rest, basic);
+            let sign = sign.filter(|_| !is_zero(rest)).unwrap_or_default();
+            format!("{sign}{spelling}")
+        }
+        b'\'' | b'"' => quoted(content(rest), '\''),
+        _ => rest.to_string(),
+    }
+}
+
+/// Some spelling that reads the same at a basic type. Zero has a sign or none.
+pub fn respelt(rng: &mut Rng, literal: &str, basic: &str) -> String {
+    let (sign, rest) = signed(literal);
+    match rest.as_bytes()[0] {
+        b'0'..=b'9' => {
+            let zero_sign = rng.pick(&[None, Some("-")]);
+            let sign = if is_zero(rest) { zero_sign } else { sign };
+            let number = respelt_number(rng, rest, basic);
+            format!("{}{number}", sign.unwrap_or_default())
+        }
+        b'\'' | b'"' => quoted(content(rest), rng.pick(&['\'', '"'])),
+        _ => rest.to_string(),
+    }
+}
+
+/// The sign of a number, if it has one, and what stands behind it.
+pub fn signed(literal: &str) -> (Option<&str>, &str) {
+    match literal.strip_prefix('-') {
+        Some(number) => (Some("-"), number),
+        None => (None, literal),
+    }
+}
+
+/// A number with the other sign, unless that fits no extent, or what else a
+/// literal is.
+pub fn negated(literal: &str) -> String {
+    let (sign, rest) = signed(literal);
+    let is_number = rest.as_bytes()[0].is_ascii_digit();
+    match sign {
+        Some(_) if significant(rest) != LEAST_EXTENT => rest.to_string(),
+        None if is_number => format!("-{rest}"),
         _ => literal.to_string(),
     }
 }
 
-/// Some spelling that reads the same at a basic type.
-pub fn respelt(rng: &mut Rng, literal: &str, basic: &str) -> String {
-    match literal.as_bytes()[0] {
-        b'0'..=b'9' if basic == "extent" => format!("{}{literal}", zeros(rng)),
-        b'0'..=b'9' => Decimal::of(literal).spelt(rng),
-        b'\'' | b'"' => quoted(content(literal), rng.pick(&['\'', '"'])),
-        _ => literal.to_string(),
+/// A number's canonical spelling without its sign.
+fn canonical_number(number: &str, basic: &str) -> String {
+    match basic {
+        "extent" => significant(number).to_string(),
+        _ => Decimal::of(number).canonical(),
     }
+}
+
+fn respelt_number(rng: &mut Rng, number: &str, basic: &str) -> String {
+    match basic {
+        "extent" => format!("{}{number}", zeros(rng)),
+        _ => Decimal::of(number).spelt(rng),
+    }
+}
+
+fn is_zero(number: &str) -> bool {
+    Decimal::of(number).digits == "0"
 }
 
 /// A whole number without zeros before it.

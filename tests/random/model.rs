@@ -1,5 +1,6 @@
 //! Operation lists and documents before they are spelt.
 
+use crate::literal;
 use crate::rng::Rng;
 use crate::spelling::{Role, Word};
 
@@ -14,6 +15,7 @@ pub enum Type {
 #[derive(Clone, PartialEq, Eq)]
 pub enum Value {
     Name(String),
+    /// A number has its sign, if it has one, directly before it.
     Literal(String),
     Array(Vec<Value>),
     Tuple(Vec<Value>),
@@ -109,7 +111,7 @@ impl Value {
         let item_words = |item: &Value, words: &mut Vec<Word>| item.words(words, names);
         match self {
             Value::Name(name) => words.push(Word::new(name, names)),
-            Value::Literal(spelling) => words.push(Word::plain(spelling)),
+            Value::Literal(spelling) => literal_words(spelling, words),
             Value::Array(items) => bracketed(words, "[", "]", items, item_words),
             Value::Tuple(items) => bracketed(words, "(", ")", items, item_words),
         }
@@ -187,6 +189,13 @@ impl Document {
         words.push(Word::plain("->"));
         bracketed(words, "(", ")", &self.outputs, name_words);
     }
+}
+
+/// A literal in words: a sign is a word of its own.
+fn literal_words(spelling: &str, words: &mut Vec<Word>) {
+    let (sign, rest) = literal::signed(spelling);
+    words.extend(sign.map(Word::plain));
+    words.push(Word::plain(rest));
 }
 
 /// The operation of this name, which the list declares.

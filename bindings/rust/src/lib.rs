@@ -54,6 +54,9 @@ pub mod limits {
 /// let kinds: Vec<Kind> = tokens.iter().map(|token| token.kind).collect();
 /// assert_eq!(kinds, [Kind::Name, Kind::Operator, Kind::Real]);
 ///
+/// let signed = sluicegnome::tokens(b"-1").unwrap();
+/// assert_eq!(signed.iter().map(|token| token.kind).collect::<Vec<_>>(), [Kind::Operator, Kind::Whole]);
+///
 /// let lines = sluicegnome::tokens(b"a # a comment\nb c\n\nd").unwrap();
 /// assert_eq!(lines.iter().map(|token| token.line).collect::<Vec<_>>(), [1, 2, 2, 4]);
 ///
@@ -96,6 +99,10 @@ pub fn check(list: &[u8], document: &[u8]) -> Result<Checked, Refusal> {
 /// The canonical text of a document under a list. Under one list, two documents have the same one exactly when they say the same.
 ///
 /// ```
+/// let shift = b"fragment external(shape: extent[]) -> (output: tensor) fragment shift(x: tensor, step: extent = -1) -> (y: tensor)";
+/// let text = sluicegnome::canon(shift, b"version 1.0 graph g(a) -> (b) { a = external(shape=[1]) b = shift(-0.0) }").unwrap();
+/// assert!(text.ends_with(b"b=shift(x=0e0,step=-1);\n}\n"));
+///
 /// # let list = b"fragment external(shape: extent[]) -> (output: tensor)";
 /// let refusal = sluicegnome::canon(list, b"version 1.0 graph g(a) -> (b) { a = extern(shape=[1]) }").unwrap_err();
 /// assert_eq!(refusal.numbers(), [24, 2, 27, 0]);

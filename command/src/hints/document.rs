@@ -3,7 +3,7 @@
 use super::list::first_of;
 use super::Hint;
 use crate::escape::escaped;
-use crate::fitting::{bindings, fits, is_extent, Binding, GREATEST_EXTENT};
+use crate::fitting::{bindings, fits, Binding, GREATEST_EXTENT, LEAST_EXTENT};
 use crate::near::nearest;
 use crate::number::counted;
 use crate::place::line;
@@ -292,13 +292,15 @@ fn name_at<'a>(names: Vec<Name<'a>>, position: usize) -> Option<&'a str> {
 /// What to write where a value does not fit a type.
 pub fn mend_value(value: &Value, ty: &Type) -> String {
     match (&value.form, ty) {
-        (Form::Literal(Kind::Whole, digits), Type::Basic("extent")) if !is_extent(digits) => {
-            format!("an extent is at most {GREATEST_EXTENT}")
+        (Form::Literal(literal), Type::Basic("extent")) if literal.kind == Kind::Whole => {
+            format!("an extent lies between {LEAST_EXTENT} and {GREATEST_EXTENT}")
         }
-        (Form::Literal(Kind::Real, _), Type::Basic("extent")) => "an extent is a whole number, without point or exponent".to_string(),
-        (Form::Literal(_, spelling), Type::Array(_)) => format!("an array stands in brackets: `[{spelling}]`"),
+        (Form::Literal(literal), Type::Basic("extent")) if literal.kind == Kind::Real => {
+            "an extent is a whole number, without point or exponent".to_string()
+        }
+        (Form::Literal(literal), Type::Array(_)) => format!("an array stands in brackets: `[{literal}]`"),
         (Form::Name(name), Type::Array(item)) if **item == Type::Basic("tensor") => format!("an array stands in brackets: `[{name}]`"),
-        (Form::Literal(_, spelling), Type::Basic("string")) => format!("a string stands in quotes: `'{spelling}'`"),
+        (Form::Literal(literal), Type::Basic("string")) => format!("a string stands in quotes: `'{literal}'`"),
         (Form::Name(name), Type::Basic("string")) => format!("a string stands in quotes: `'{name}'`"),
         (Form::Name(_), Type::Basic(word)) => format!("an identifier is a tensor; write {}", literal_of(word)),
         (Form::Tuple(items), Type::Tuple(types)) if items.len() != types.len() => format!("the tuple has {} items", types.len()),

@@ -26,12 +26,16 @@ impl Setting<'_> {
     fn last_but_one(&self) -> &str {
         self.before.get(1).copied().unwrap_or_default()
     }
+
+    fn value_may_stand(&self) -> bool {
+        self.expected.contains("a literal")
+    }
 }
 
 /// The hint with the cause and the help that go with the setting, if it is known.
 pub fn hint(plain: Hint, setting: &Setting) -> Hint {
-    let of_text = if setting.list { in_list(setting) } else { in_document(setting) };
-    match of_text.or_else(|| anywhere(setting)) {
+    let of_text = || if setting.list { in_list(setting) } else { in_document(setting) };
+    match behind_sign(setting).or_else(of_text).or_else(|| anywhere(setting)) {
         Some((cause, help)) => plain.caused_by(cause).helped_by(help),
         None => plain,
     }
@@ -43,9 +47,26 @@ fn words(cause: &str, help: &str) -> Option<Words> {
     Some((cause.to_string(), help.to_string()))
 }
 
+/// What stands where a sign asks for a number.
+fn behind_sign(setting: &Setting) -> Option<Words> {
+    let found = setting.found?;
+    if setting.last() != "-" || setting.expected != "a number" {
+        return None;
+    }
+    let help = match (found, setting.kind) {
+        ("-", _) => "leave one of the two signs out",
+        ("[" | "(", _) => "write the sign before each number inside",
+        (_, Some(Kind::String | Kind::Logical)) => "leave out the sign",
+        (_, Some(Kind::Name)) if !setting.list => "use an operation of the list that subtracts or negates",
+        _ => "write a number behind it, or leave it out",
+    };
+    words("a sign stands before a number alone", help)
+}
+
 fn in_document(setting: &Setting) -> Option<Words> {
     let begins = setting.before.is_empty();
     match setting.found? {
+        "-" | "+" if setting.last() == "version" => words("the version has no sign", "write `version 1.0`"),
         ";" if setting.last_but_one() == "version" => words("ordinary NNEF 1.0 files write `version 1.0;`", "leave out the `;`"),
         "extension" => words("`extension` belongs to ordinary NNEF 1.0 files", "remove it up to its `;`: no extension is read"),
         "<" if setting.last_but_one() == "=" => {
@@ -78,8 +99,9 @@ fn in_list(setting: &Setting) -> Option<Words> {
         "<" => words("fragments that leave a type open, as `<?>`, are not read", "write the name alone"),
         "{" => words("bodies of fragments are not read", "remove the body, from `{` to `}`"),
         ";" => words("ordinary NNEF 1.0 files end a declaration with `;`", "leave out the `;`"),
-        "-" | "+" => words("numbers have no sign here", "declare the parameter without a default, or with one that is not negative"),
+        "-" | "+" if setting.expected.contains("`)`") => words("operator expressions are not read", "write the value itself"),
         "version" | "graph" => words("this is a graph and not an operation list", "name the operation list with -l LIST"),
+        _ if setting.expected == "`]`" && setting.last() == "[" => words("an array type has no length", "write `[]` alone"),
         _ if setting.kind == Some(Kind::Name) && setting.last() == "=" => {
             words("a default holds no names", "write a number, a string, true or false")
         }
@@ -88,7 +110,6 @@ fn in_list(setting: &Setting) -> Option<Words> {
 }
 
 fn anywhere(setting: &Setting) -> Option<Words> {
-    let value_may_stand = setting.expected.contains("a literal");
     let Some(found) = setting.found else {
         return match setting.comments_run_on {
             true => words("lines end with a carriage return alone, so a comment runs to the end of the text", "end lines with a line feed"),
@@ -97,8 +118,10 @@ fn anywhere(setting: &Setting) -> Option<Words> {
     };
     match found {
         "/" if setting.after == Some("/") || setting.after == Some("*") => words("comments begin with `#`", "write `#` for each line"),
-        "-" | "+" if value_may_stand => words("numbers have no sign here", "use an operation of the list that subtracts or negates"),
-        "shape_of" | "length_of" | "range_of" | "for" | "in" | "if" | "else" if value_may_stand => {
+        "-" if setting.after == Some(">") && setting.expected.contains("`->`") => words("`->` is one token", "write it without a blank"),
+        "+" if setting.value_may_stand() => words("a number has no plus sign", "leave it out"),
+        "-" | "+" if setting.expected.contains("a name") => words("names alone stand here", "write a name, without a sign"),
+        "shape_of" | "length_of" | "range_of" | "for" | "in" | "if" | "else" if setting.value_may_stand() => {
             Some((format!("`{found}` belongs to expressions, which are not read"), "write the value itself".to_string()))
         }
         ")" | "]" if setting.last() == "," => words("a comma stands before the closing bracket", "leave out the comma"),

@@ -1,11 +1,12 @@
 -- The canonical text of a plan that fits is lexed to the tokens of its pieces (`lex-canonical`). In order: marks, words, values, names,
 -- arguments, left sides, calls, the document.
 use mathlib.Core.Path.{_≡_, refl, sym, ap, _∙_}
-use mathlib.Core.Bool.{Bool, true, false, cond}
+use mathlib.Core.Bool.{Bool, true, false, cond, and-true}
 use mathlib.Core.List.{List, [], _∷_}
-use Prim.Native.Nat.{ℕ, _≤_, _<_}
+use Prim.Native.Nat.{ℕ, suc, _≤_, _<_}
 use native.Mathlib.Omega.{arith}
 use lib.Dec.{eqb, leb}
+use lib.IntN.{ℤ, pos, negsuc, natAbs}
 use lib.ListN.{length, take}
 use borrow.Author.Tests.{eqb-false, leb-true}
 use Rattle.lexis.specs.Sizes.{maxName, maxTokens, maxExtent}
@@ -19,12 +20,12 @@ use Rattle.lexis.specs.Code as Code
 use Rattle.lexis.specs.Lexer.{Token, accepted, refused, lex}
 use Rattle.syntax.specs.Tree.{Ty, Tys, Param, Header}
 use Rattle.syntax.specs.Grammar.{Leaves, both}
-use Rattle.lists.specs.Reading.{Val, Vals}
+use Rattle.lists.specs.Reading.{isExtent, Val, Vals}
 use Rattle.writing.specs.Plan.{Plan, PlanCall}
 use Rattle.writing.specs.Spelling.{decimal, spellNumber, holdsSingle, quoteFor, spellString, spellTruth}
 use Rattle.writing.specs.Pieces.{Piece, text, tokensAt}
-use Rattle.writing.specs.Layout.{piece, spaced, namePiece, mark, pieces, items, moreItems, leftPieces, moreNamesPieces, namesPieces, argumentPieces}
-use Rattle.writing.specs.Layout.{moreArgumentsPieces, argumentsPieces, callPieces, callsPieces, documentPieces, canonical}
+use Rattle.writing.specs.Layout.{piece, spaced, namePiece, mark, signPieces, unsignedOf, pieces, items, moreItems, leftPieces, moreNamesPieces}
+use Rattle.writing.specs.Layout.{namesPieces, argumentPieces, moreArgumentsPieces, argumentsPieces, callPieces, callsPieces, documentPieces, canonical}
 use Rattle.writing.proofs.Fit.{All, none, more, IsWord, IsName, IsNumber, IsText, Fits, fit-name, fit-number, fit-scalar, fit-extent, fit-string}
 use Rattle.writing.proofs.Fit.{fit-logical, fit-truth, fit-array, fit-tuple, FitsAll, all-none, all-more, FitsEach, each-none, each-more, LeftFits}
 use Rattle.writing.proofs.Fit.{alone, several, FitsParams, no-param, a-param, CallFits, CallsFit, one-call, more-calls, NamesFit, one-name}
@@ -33,8 +34,10 @@ use Rattle.writing.proofs.Found.{params-found}
 use Rattle.writing.proofs.Runs.{next, span-all, differs}
 use Rattle.canonical.proofs.Digits.{are-digits}
 use Rattle.canonical.proofs.Numbers.{Apart}
-use Rattle.canonical.proofs.Lexing.{isSpace, Lexes, Chain, nil, link, lex-again, lex-too-many, Begins, begins, digits-begin, word-begins, number-begins}
-use Rattle.canonical.proofs.Lexing.{word-lexes, whole-lexes, number-lexes, string-lexes, mark-lexes, equals-lexes, arrow-lexes, version-lexes}
+use Rattle.canonical.proofs.Lexing.{isSpace, Lexes, Chain, nil, link, lex-again, lex-too-many, Begins, begins, begins-append, digits-begin}
+use Rattle.canonical.proofs.Lexing.{word-begins, number-begins}
+use Rattle.canonical.proofs.Lexing.{word-lexes, whole-lexes, number-lexes, string-lexes, mark-lexes, equals-lexes, sign-lexes, arrow-lexes}
+use Rattle.canonical.proofs.Lexing.{version-lexes}
 
 -- pieces that are lexed back, also right after a word or a number
 record AfterWord (r : List Piece) : Type 0 where
@@ -102,8 +105,20 @@ a-truth x a = a-word (spellTruth x) (truth-word x) (truth-kind x) a
 a-number : {n : Reduced} {r : List Piece} → IsNumber n → AfterWord r → AfterEqual (piece Kind.real (spellNumber n) ∷ r)
 a-number {n} {r} h a = leaf (number-begins n) refl (number-lexes n (text r) h (a .apart)) (a .chain)
 
-an-extent : {n : ℕ} {r : List Piece} → n ≤ maxExtent → AfterWord r → AfterEqual (piece Kind.whole (decimal n) ∷ r)
-an-extent {n} {r} h a = leaf (digits-begin (are-digits n)) refl (whole-lexes n (text r) (omega arith) (a .apart)) (a .chain)
+extent-small : (z : ℤ) → isExtent z ≡ true → natAbs z ≤ suc maxExtent
+unfolding isExtent
+extent-small (pos n) h = omega (arith, leb-true n maxExtent h)
+extent-small (negsuc n) h = omega (arith, leb-true n maxExtent (sym (and-true (leb n maxExtent)) ∙ h))
+
+an-extent : (z : ℤ) {r : List Piece} → isExtent z ≡ true → AfterWord r → AfterEqual (piece Kind.whole (decimal (natAbs z)) ∷ r)
+an-extent z {r} h a =
+    leaf (digits-begin (are-digits (natAbs z))) refl (whole-lexes (natAbs z) (text r) (omega (arith, extent-small z h)) (a .apart)) (a .chain)
+
+-- a number after its sign
+signed : (z : ℤ) {k : ℕ} {b : List ℕ} {r : List Piece} → Begins Class.digit b → AfterEqual (piece k b ∷ r) → AfterEqual (signPieces z (piece k b ∷ r))
+unfolding text signPieces
+signed (pos n) h a = a
+signed (negsuc n) {r = r} h a = record { chain = link (sign-lexes (begins-append (text r) h)) (a .chain); other = λ z. omega arith }
 
 -- either quote is of the class of quotes, and no content of its own strings
 quotes : (s : List ℕ) → (classOf (quoteFor s) ≡ Class.quote) × (isContent (quoteFor s) (quoteFor s) ≡ false)
@@ -126,9 +141,9 @@ mutual
 
   value : {m : Leaves} {b : ℕ} {u : Ty} {v : Val} {r : List Piece} → Fits m b u v → AfterWord r → AfterEqual (pieces v r)
   value (fit-name t h) a = a-name h a
-  value (fit-number t h) a = a-number h a
-  value (fit-scalar t h) a = a-number h a
-  value (fit-extent t h) a = an-extent h a
+  value (fit-number {n = n} t h) a = signed (n .mantissa) (number-begins (unsignedOf n)) (a-number h a)
+  value (fit-scalar {n = n} t h) a = signed (n .mantissa) (number-begins (unsignedOf n)) (a-number h a)
+  value (fit-extent {z = z} t h) a = signed z (digits-begin (are-digits (natAbs z))) (an-extent z h a)
   value (fit-string t h) a = a-string h (a .chain)
   value (fit-logical {x} t) a = a-truth x a
   value (fit-truth {x} t) a = a-truth x a

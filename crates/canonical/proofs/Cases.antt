@@ -1,4 +1,4 @@
--- Worked examples, by computation: the table of the cases P1 to P12, under one statement.
+-- Worked examples, by computation: the table of the cases P1 to P12 and of signs, under one statement.
 use Prim.Native.Nat.{ℕ}
 use Prim.Native.String.{String}
 use mathlib.Core.Path.{_≡_, refl}
@@ -115,6 +115,8 @@ cases =
     -- P8
     ∷ suits "2147483647" "extent" true
     ∷ suits "2147483648" "extent" false
+    ∷ suits "-2147483648" "extent" true
+    ∷ suits "-2147483649" "extent" false
     -- P9
     ∷ suits "[]" "extent[][]" true
     -- P10
@@ -129,18 +131,25 @@ cases =
     "version 1.0 graph win(px) -> (out) { px = external(shape=[01,9]); out = scale(px, by=0.50) }"
     88
     "version 1.0\ngraph win(px)->(out)\n{\npx=external(shape=[1,9]);\nout=scale(x=px,by=5e-1);\n}\n"
+    -- signs: of a default, before a space, of zero
+    ∷ writes
+    "fragment external(shape: extent[]) -> (output: tensor) fragment shift(x: tensor, by: extent = -1, to: scalar[]) -> (y: tensor)"
+    "version 1.0 graph win(px) -> (out) { px = external(shape=[9]); out = shift(px, to=[- 0.50, -0]) }"
+    99
+    "version 1.0\ngraph win(px)->(out)\n{\npx=external(shape=[9]);\nout=shift(x=px,by=-1,to=[-5e-1,0e0]);\n}\n"
     ∷ []
 
 pub right : map (λ (c : Case). c .gives) cases ≡ map (λ (c : Case). c .is) cases
 unfolding flatten flatMap classOf spanLen gapFrom sameBytes words kindIn fracLen signLen isE expLen partsOf sticks valueFrom writtenOf minusOf strip
     reducedOf isNear isSmall inRange numberLexeme wordLexeme stringLexeme takesEqual isPair isArrow markLexeme lexeme admit lexFrom terminals symbolIn
-    symbolOf symOf P.expect P.follow P.rowF P.row P.valueStep P.arrayItems P.tupleItems P.bracketed P.value P.typeName P.dims P.tupleTypes P.baseStep P.type
-    P.default P.param P.result P.header P.operations P.argument P.left P.call P.document R.readAt R.readAll R.readEach R.fits R.allTensor R.allTensors
-    R.typesOf R.resultType B.leading B.byName B.slotsFrom operationOf Plan.valueFor Plan.valuesFor Plan.planCall Plan.planCalls Plan.planOf F.before F.first
-    N.those N.isAmong N.repeatsAfter N.namesIn N.namesOf N.used N.allAssigned N.allUsed L.listCounts L.listRepeats L.badDefaults L.listFaults B.labels
-    B.taken B.misplacedFrom B.misnamed B.misfits B.lacked W.again W.unwiredAfter W.misfedBy W.misfed W.unmade D.badVersion D.documentCounts D.graphRepeats
-    D.undeclared D.argumentFaults D.unmatched D.documentFaults listStages A.documentStages A.bothStages A.checked A.checkAnswer S.decimalBy S.decimal
-    S.spellExponent S.spellNumber S.holdsSingle S.quoteFor S.spellString Pieces.text Layout.pieces Layout.items Layout.moreItems Layout.leftPieces
-    Layout.moreNamesPieces Layout.namesPieces Layout.moreArgumentsPieces Layout.argumentsPieces Layout.callPieces Layout.callsPieces Layout.documentPieces
-    C.layoutOf C.writingStages C.textStages C.written cases tokensOf checks outcome lexes reduces fitsParsed suits bytesOf writes
+    symbolOf symOf P.expect P.follow P.rowF P.row P.negative P.valueStep P.arrayItems P.tupleItems P.bracketed P.value P.typeName P.dims P.tupleTypes
+    P.baseStep P.type P.default P.param P.result P.header P.operations P.argument P.left P.call P.document R.isExtent R.readAt R.readAll R.readEach R.fits
+    R.allTensor R.allTensors R.typesOf R.resultType B.leading B.byName B.slotsFrom operationOf Plan.valueFor Plan.valuesFor Plan.planCall Plan.planCalls
+    Plan.planOf F.before F.first N.those N.isAmong N.repeatsAfter N.namesIn N.namesOf N.used N.allAssigned N.allUsed L.listCounts L.listRepeats
+    L.badDefaults L.listFaults B.labels B.taken B.misplacedFrom B.misnamed B.misfits B.lacked W.again W.unwiredAfter W.misfedBy W.misfed W.unmade
+    D.badVersion D.documentCounts D.graphRepeats D.undeclared D.argumentFaults D.unmatched D.documentFaults listStages A.documentStages A.bothStages
+    A.checked A.checkAnswer S.decimalBy S.decimal S.spellExponent S.spellNumber S.holdsSingle S.quoteFor S.spellString Pieces.text Layout.signPieces
+    Layout.pieces Layout.items Layout.moreItems Layout.leftPieces Layout.moreNamesPieces Layout.namesPieces Layout.moreArgumentsPieces
+    Layout.argumentsPieces Layout.callPieces Layout.callsPieces Layout.documentPieces C.layoutOf C.writingStages C.textStages C.written cases tokensOf
+    checks outcome lexes reduces fitsParsed suits bytesOf writes
 right = refl

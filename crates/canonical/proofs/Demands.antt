@@ -3,24 +3,29 @@
 -- of `lists` and `documents`, the first fault in `Fault` of `lists`, the table of codes in `CodeTable`, plans and canonical texts in `Plan`
 -- and `Layout`. `docs/DEMANDS.md` reads this page aloud.
 use mathlib.Core.Path.{_≡_}
-use mathlib.Core.Bool.{true, false}
+use mathlib.Core.Bool.{Bool, true, false, cond}
 use mathlib.Core.List.{List, [], _∷_, _++_}
 use mathlib.Core.Logic.{_↔_}
-use Prim.Native.Nat.{ℕ, _*_, _≤_, _<_}
+use Prim.Native.Nat.{ℕ, suc, _*_, _≤_, _<_}
 use lib.ListN.{length, getD, replicate}
 use lib.Seq.{sets}
-use Rattle.lexis.specs.Sizes.{maxText, maxTokens, maxBrackets, tokenWords, tableWords, workWords}
+use Rattle.lexis.specs.Sizes.{maxText, maxTokens, maxBrackets, tokenWords, tableWords, workWords, maxExtent}
 use Rattle.lexis.specs.Code as Code
+use Rattle.lexis.specs.Kind as Kind
+use Rattle.lexis.specs.Number.{valueFrom, signed}
 use Rattle.lexis.specs.Lexer.{Token, accepted, refused, lex, Placed, Longest, Kinded}
 use Rattle.lexis.specs.Line.{lineOf, NoFeed}
 use Rattle.lexis.specs.Answer.{answer, tokenRecords, tokensAnswer, tokensTable, startIn, lineIn}
 use Rattle.lexis.proofs.Theorems as Lexis
-use Rattle.syntax.specs.Tree.{Header, Call, Document}
+use Rattle.syntax.specs.Tree.{Literal, Header, Call, Document}
+use Rattle.syntax.specs.Tree.Value.{literal}
+use Rattle.syntax.specs.Tree.Ty.{extent}
 use Rattle.syntax.specs.Grammar.{IsList, IsDocument}
 use Rattle.syntax.specs.Fault.{FirstFault}
 use Rattle.syntax.specs.Table.{placeOf}
 use Rattle.lists.specs.Fault.{Fault, IsFirst}
 use Rattle.lists.specs.Names.{used}
+use Rattle.lists.specs.Reading.{fits}
 use Rattle.lists.specs.ListRules.{listFaults}
 use Rattle.lists.specs.Answer.{declarationsAnswer, workAfter}
 use Rattle.lists.specs.Accepted.{AcceptedList}
@@ -166,6 +171,17 @@ module _ (list : List ℕ) (work : ℕ) (r : workWords ≤ work) (l : length lis
   pub declarations-rules : (ts : List Token) (hs : List Header) (x : Fault) → lex list ≡ accepted ts → IsList maxBrackets ts hs → IsFirst x (listFaults hs)
       → declarationsAnswer list work ≡ answer (x .code) 1 (x .at) (x .detail)
   declarations-rules ts hs x e s f = Answers.declarations-refuses list work _ r l (Lists.list-rules list ts hs x e s f)
+
+-- ---- numbers with a sign
+
+-- a whole number fits extent exactly when it is at most 2,147,483,647, and with a sign exactly when it is at most one more
+pub extent-ends : (l : Literal) → l .token .kind ≡ Kind.whole
+    → (fits (literal l) extent ≡ true) ↔ (valueFrom 0 (l .token .bytes) ≤ cond (l .negative) (suc maxExtent) maxExtent)
+extent-ends = Lists.extent-ends
+
+-- two signed numbers are equal exactly when the numbers are, and the signs too unless the numbers are zero
+pub signed-same : (a b : Bool) (m n : ℕ) → (signed a m ≡ signed b n) ↔ ((m ≡ n) × (0 < m → a ≡ b))
+signed-same = Lists.signed-same
 
 -- ---- check
 

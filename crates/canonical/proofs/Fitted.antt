@@ -1,16 +1,16 @@
 -- What the grammar spells with good tokens fits the type at which it reads. In order: numbers; leaves; arrays and tuples; values and
 -- the tokens after them; more brackets and more leaves keep what fits.
-use mathlib.Core.Path.{_≡_, refl}
+use mathlib.Core.Path.{_≡_, refl, sym, ap, subst}
 use mathlib.Core.Bool.{Bool, true, false, cond, _&&_, and-eq-true-iff}
 use mathlib.Core.List.{List, _∷_}
 use mathlib.Core.Option.{some}
 use Prim.Native.Nat.{ℕ, zero, suc, _≤_}
 use native.Mathlib.Nat.{le-of-suc-le-suc, not-suc-le-zero}
 use lib.Dec.{eqb, leb}
-use borrow.Author.Tests.{leb-true, eqb-true, eqb-false}
-use Rattle.lexis.specs.Sizes.{maxWritten, maxExtent}
+use borrow.Author.Tests.{eqb-true, eqb-false}
+use Rattle.lexis.specs.Sizes.{maxWritten}
 use Rattle.lexis.specs.Kind as Kind
-use Rattle.lexis.specs.Number.{partsOf, writtenOf, reducedOf, isSmall, inRange, valueFrom, spelt}
+use Rattle.lexis.specs.Number.{Reduced, partsOf, writtenOf, reducedOf, isSmall, inRange, valueFrom, spelt, signed}
 use Rattle.lexis.specs.Lexer.{Token}
 use Rattle.lexis.proofs.Theorems.{reduced}
 use Rattle.syntax.specs.Tree.{Value, Values, Ty, Tys}
@@ -18,10 +18,13 @@ use Rattle.syntax.specs.Tree.Value.{array, tuple}
 use Rattle.syntax.specs.Tree.Values.{none, more}
 use Rattle.syntax.specs.Tree.Ty.{tensor, extent, scalar, logical, string, arrayOf, tupleOf}
 use Rattle.syntax.specs.Tree.Tys.{no-type, a-type}
-use Rattle.syntax.specs.Grammar.{Leaves, takesNames, takesLiterals, Spells, a-name, a-literal, an-empty-array, an-array, a-tuple, Items, last-item, next-item}
+use Rattle.syntax.specs.Grammar.{Leaves, takesNames, takesLiterals, no-sign, a-sign, Spells, a-name, a-literal, an-empty-array, an-array, a-tuple, Items}
+use Rattle.syntax.specs.Grammar.{last-item, next-item}
 use Rattle.lists.specs.Reading.{Val, Vals, vName, vExtent, vString, vArray, vTuple, no-val, a-val, where-true, isNumber, contentOf, numberOf, truthOf, nameAt}
-use Rattle.lists.specs.Reading.{literalAt, bind, readAt, readAll, readEach}
+use Rattle.lists.specs.Reading.{withSign, isExtent, literalAt, bind, readAt, readAll, readEach}
+use Rattle.lists.proofs.Extents.{abs-signed}
 use Rattle.documents.proofs.Items.{clash}
+use Rattle.writing.specs.Layout.{unsignedOf}
 use Rattle.writing.proofs.Fit.{Lowest, nought, odd, IsName, IsNumber, Fits, fit-name, fit-number, fit-scalar, fit-extent, fit-string, fit-logical}
 use Rattle.writing.proofs.Fit.{fit-truth, fit-array, fit-tuple, FitsAll, all-none, all-more, FitsEach, each-none, each-more}
 use Rattle.writing.proofs.Planned.{bound}
@@ -38,6 +41,13 @@ number-is w h =
     go : (b : Bool) → eqb (spelt w) 0 ≡ b → Lowest (reducedOf w (partsOf w))
     go true e = rw (reduced w .zero (eqb-true (spelt w) 0 e)) nought
     go false e = odd (reduced w .ends (eqb-false (spelt w) 0 e))
+
+-- a number without its sign
+unsigned-again : (n : Bool) (r : Reduced) → unsignedOf (withSign n r) ≡ r
+unsigned-again n r = ap (λ (m : ℕ). record { mantissa = m; exponent = r .exponent }) (abs-signed n (r .mantissa))
+
+signed-is : (n : Bool) (w : List ℕ) → inRange w (partsOf w) ≡ true → IsNumber (unsignedOf (withSign n (reducedOf w (partsOf w))))
+signed-is n w h = subst IsNumber (sym (unsigned-again n (reducedOf w (partsOf w)))) (number-is w h)
 
 -- ---- leaves
 
@@ -56,20 +66,20 @@ module _ {m : Leaves} {b : ℕ} where
   name-fits (arrayOf u) w v l n h = clash cc
   name-fits (tupleOf us) w v l n h = clash cc
 
-  literal-fits : (u : Ty) (k : ℕ) (w : List ℕ) (v : Val) → takesLiterals m ≡ true → Good k w → literalAt u k w ≡ some v → Fits m b u v
-  literal-fits tensor k w v l g h = go (eqb k Kind.truth) h
+  literal-fits : (u : Ty) (n : Bool) (k : ℕ) (w : List ℕ) (v : Val) → takesLiterals m ≡ true → Good k w → literalAt u n k w ≡ some v → Fits m b u v
+  literal-fits tensor n k w v l g h = go (eqb k Kind.truth) h
     where
-      go : (c : Bool) → cond c (some (truthOf w)) (where-true (isNumber k) (numberOf w)) ≡ some v → Fits m b tensor v
+      go : (c : Bool) → cond c (some (truthOf w)) (where-true (isNumber k) (numberOf n w)) ≡ some v → Fits m b tensor v
       go true h = tested true (truthOf w) v (λ _. fit-truth l) h
-      go false h = tested (isNumber k) (numberOf w) v (λ t. fit-number l (number-is w (g .number t .0))) h
-  literal-fits extent k w v l g h =
-      tested (eqb k Kind.whole && leb (valueFrom 0 w) maxExtent) (vExtent (valueFrom 0 w)) v
-      (λ t. fit-extent l (leb-true (valueFrom 0 w) maxExtent (and-eq-true-iff (eqb k Kind.whole) (leb (valueFrom 0 w) maxExtent) .0 t .1))) h
-  literal-fits scalar k w v l g h = tested (isNumber k) (numberOf w) v (λ t. fit-scalar l (number-is w (g .number t .0))) h
-  literal-fits logical k w v l g h = tested (eqb k Kind.truth) (truthOf w) v (λ _. fit-logical l) h
-  literal-fits string k w v l g h = tested (eqb k Kind.string) (vString (contentOf w)) v (λ t. fit-string l (g .text (eqb-true k Kind.string t))) h
-  literal-fits (arrayOf u) k w v l g h = clash cc
-  literal-fits (tupleOf us) k w v l g h = clash cc
+      go false h = tested (isNumber k) (numberOf n w) v (λ t. fit-number l (signed-is n w (g .number t .0))) h
+  literal-fits extent n k w v l g h =
+      let z = signed n (valueFrom 0 w) in
+      tested (eqb k Kind.whole && isExtent z) (vExtent z) v (λ t. fit-extent l (and-eq-true-iff (eqb k Kind.whole) (isExtent z) .0 t .1)) h
+  literal-fits scalar n k w v l g h = tested (isNumber k) (numberOf n w) v (λ t. fit-scalar l (signed-is n w (g .number t .0))) h
+  literal-fits logical n k w v l g h = tested (eqb k Kind.truth) (truthOf w) v (λ _. fit-logical l) h
+  literal-fits string n k w v l g h = tested (eqb k Kind.string) (vString (contentOf w)) v (λ t. fit-string l (g .text (eqb-true k Kind.string t))) h
+  literal-fits (arrayOf u) n k w v l g h = clash cc
+  literal-fits (tupleOf us) n k w v l g h = clash cc
 
 -- ---- arrays and tuples
 
@@ -161,7 +171,8 @@ module _ {m : Leaves} {b : ℕ} where
 mutual
   pub spells-rest : {m : Leaves} {b : ℕ} {ts us : List Token} {v : Value} → Spells m b ts v us → AllGood ts → AllGood us
   spells-rest (a-name l s) g = g .1
-  spells-rest (a-literal l s) g = g .1
+  spells-rest (a-literal l (no-sign s)) g = g .1
+  spells-rest (a-literal l (a-sign s n)) g = g .1 .1
   spells-rest (an-empty-array o c) g = g .1 .1
   spells-rest (an-array o i) g = items-rest i (g .1)
   spells-rest (a-tuple o s c i) g = items-rest i (spells-rest s (g .1) .1)
@@ -175,7 +186,8 @@ mutual
 
   pub spells-fits : {m : Leaves} {b : ℕ} {ts us : List Token} {v : Value} → Spells m b ts v us → AllGood ts → Reads m b v
   spells-fits (a-name {t = t} l s) g u w h = name-fits u (t .bytes) w l (good-name t (g .0) s) h
-  spells-fits (a-literal {t = t} l s) g u w h = literal-fits u (t .kind) (t .bytes) w l (g .0) h
+  spells-fits (a-literal l (no-sign {t = t} s)) g u w h = literal-fits u false (t .kind) (t .bytes) w l (g .0) h
+  spells-fits (a-literal l (a-sign {t = t} s n)) g u w h = literal-fits u true (t .kind) (t .bytes) w l (g .1 .0) h
   spells-fits (an-empty-array {o = o} s c) g u w h = array-fits o none u w (λ x ws e. none-all x ws e) h
   spells-fits (an-array {o = o} {vs = vs} s i) g u w h = array-fits o vs u w (λ x ws e. items-all i (g .1) x ws e) h
   spells-fits (a-tuple {o = o} {v = v} {vs} o' s c i) g u w h =

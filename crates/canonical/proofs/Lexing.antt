@@ -1,7 +1,7 @@
 -- A text of pieces is lexed back to their tokens where the lexer finds each piece before those that follow it (`lex-again`); and it finds
 -- each sort of piece of canonical text: words, numbers, strings, marks.
 use mathlib.Core.Path.{_≡_, refl, sym, _∙_}
-use mathlib.Core.Bool.{Bool, true, false}
+use mathlib.Core.Bool.{Bool, true, false, and-false}
 use mathlib.Core.List.{List, [], _∷_, _++_, append-assoc}
 use Prim.Native.Nat.{ℕ, suc, _+_, _≤_, _<_}
 use native.Mathlib.Omega.{arith}
@@ -27,7 +27,7 @@ use Rattle.lexis.proofs.Marks.{mark-alone, mark-equal}
 use Rattle.writing.specs.Spelling.{decimal, spellExponent, spellNumber, quoted}
 use Rattle.writing.specs.Pieces.{Piece, text, tokensAt}
 use Rattle.writing.proofs.Fit.{All, none, more, IsWord, IsNumber}
-use Rattle.writing.proofs.Runs.{next, span-again}
+use Rattle.writing.proofs.Runs.{next, span-again, differs}
 use Rattle.canonical.proofs.Digits.{IsDigits, some-digits, are-digits}
 use Rattle.canonical.proofs.Numbers.{Apart, number-again, whole-again}
 
@@ -95,7 +95,7 @@ lex-too-many n at (link {p} {ps} l c) m h =
 pub data Begins (j : ℕ) : List ℕ → Type 0 where
   begins : {c : ℕ} {s : List ℕ} → classOf c ≡ j → Begins j (c ∷ s)
 
-begins-append : {j : ℕ} {s : List ℕ} (r : List ℕ) → Begins j s → Begins j (s ++ r)
+pub begins-append : {j : ℕ} {s : List ℕ} (r : List ℕ) → Begins j s → Begins j (s ++ r)
 begins-append r (begins h) = begins h
 
 pub digits-begin : {s : List ℕ} → IsDigits s → Begins Class.digit s
@@ -180,6 +180,13 @@ equals-lexes r n = lexes [] r (begins refl) refl refl none (by-mark (byte "=") r
 pub arrow-lexes : (r : List ℕ) → Lexes (record { kind = Kind.syntactic; bytes = ascii "->"; space = [] }) r
 unfolding classOf lexeme markLexeme isPair isArrow takesEqual
 arrow-lexes r = lexes [] r (begins refl) refl refl none refl
+
+-- a sign before a digit
+pub sign-lexes : {r : List ℕ} → Begins Class.digit r → Lexes (record { kind = Kind.operator; bytes = ascii "-"; space = [] }) r
+unfolding classOf lexeme markLexeme isPair isArrow takesEqual
+sign-lexes (begins {c} {s} h) =
+    lexes [] (c ∷ s) (begins refl) refl refl none
+    (simp (and-false (eqb c (byte "=")), differs classOf (byte ">") c Class.operator Class.digit refl h (λ z. omega arith)))
 
 -- `1.0` before a line feed
 pub version-lexes : (r : List ℕ) → Lexes (record { kind = Kind.real; bytes = ascii "1.0"; space = 10 ∷ [] }) r

@@ -1,6 +1,6 @@
 -- Values are read back: the tokens of a value's pieces, wherever they are placed and whatever follows, spell a tree that reads as the value.
 -- In order: placed pieces, and what they come to; leaves; the items after a first one; values.
-use mathlib.Core.Path.{_≡_, refl}
+use mathlib.Core.Path.{_≡_, refl, ap}
 use mathlib.Core.Bool.{Bool, true, false}
 use mathlib.Core.List.{List, _∷_}
 use mathlib.Core.Option.{some}
@@ -9,22 +9,24 @@ use native.Mathlib.Omega.{arith}
 use lib.Dec.{eqb}
 use lib.ListN.{length, length-append, getD}
 use lib.Seq.{take-append-seam}
-use borrow.Author.Tests.{le-leb}
+use lib.IntN.{ℤ, pos, negsuc, natAbs}
 use Rattle.lexis.specs.Ascii.{ascii}
-use Rattle.lexis.specs.Sizes.{maxExtent}
 use Rattle.lexis.specs.Kind as Kind
+use Rattle.lexis.specs.Words.{sameBytes}
 use Rattle.lexis.specs.Lexer.{Token}
-use Rattle.lexis.specs.Symbol.{symOf, symbolOf, isLiteral}
-use Rattle.syntax.specs.Tree.{Value, Values, Ty, Tys}
+use Rattle.lexis.specs.Symbol.{symOf, symbolOf, isLiteral, aNumber}
+use Rattle.syntax.specs.Tree.{unsigned, negated, Value, Values, Ty, Tys}
 use Rattle.syntax.specs.Tree.Value.{name, literal, array, tuple}
 use Rattle.syntax.specs.Tree.Values.{none, more}
 use Rattle.syntax.specs.Tree.Ty.{arrayOf}
-use Rattle.syntax.specs.Grammar.{Leaves, takesLiterals, Spells, a-name, a-literal, an-empty-array, an-array, a-tuple, Items, last-item, next-item}
+use Rattle.syntax.specs.Grammar.{Leaves, takesLiterals, no-sign, a-sign, Spells, a-name, a-literal, an-empty-array, an-array, a-tuple, Items, last-item}
+use Rattle.syntax.specs.Grammar.{next-item}
 use Rattle.lists.specs.Reading.{Val, Vals, vArray, a-val, contentOf, literalAt, readAt, readAll, readEach}
 use Rattle.writing.specs.Spelling.{decimal, spellNumber, quoteFor, quoted, spellString, spellTruth}
 use Rattle.writing.specs.Pieces.{Piece, tokensAt}
-use Rattle.writing.specs.Layout.{piece, namePiece, mark, pieces, items, moreItems}
+use Rattle.writing.specs.Layout.{piece, namePiece, mark, signPieces, unsignedOf, pieces, items, moreItems}
 use Rattle.writing.proofs.Fit.{Fits, fit-name, fit-number, fit-scalar, fit-extent, fit-string, fit-logical, fit-truth, fit-array, fit-tuple}
+use Rattle.writing.proofs.Signs.{isNegative, signed-again}
 use Rattle.canonical.proofs.Digits.{value-digits}
 use Rattle.canonical.proofs.Numbers.{read-number}
 use Rattle.writing.proofs.Fit.{FitsAll, all-none, all-more, FitsEach, each-none, each-more}
@@ -55,9 +57,24 @@ pub record OthersBack (m : Leaves) (b : ℕ) (close : List ℕ) (Reads : Values 
 -- ---- leaves
 
 literal-back : {m : Leaves} {b : ℕ} {u : Ty} {v : Val} (k : ℕ) (w : List ℕ) (at : ℕ) (r : List Piece)
-    → takesLiterals m ≡ true → isLiteral (symbolOf k w) ≡ true → literalAt u k w ≡ some v → Back m b u v at (piece k w ∷ r) r
+    → takesLiterals m ≡ true → isLiteral (symbolOf k w) ≡ true → literalAt u false k w ≡ some v → Back m b u v at (piece k w ∷ r) r
 unfolding tokensAt symOf readAt
-literal-back k w at r t i e = record { tree = literal (placed at (piece k w)); after = past at (piece k w); spells = a-literal t i; reads = e }
+literal-back k w at r t i e =
+    record { tree = literal (unsigned (placed at (piece k w))); after = past at (piece k w); spells = a-literal t (no-sign i); reads = e }
+
+-- a number after its sign
+signed-back : {m : Leaves} {b : ℕ} {u : Ty} {v : Val} (z : ℤ) (k : ℕ) (w : List ℕ) (at : ℕ) (r : List Piece)
+    → takesLiterals m ≡ true → symbolOf k w ≡ aNumber → literalAt u (isNegative z) k w ≡ some v → Back m b u v at (signPieces z (piece k w ∷ r)) r
+unfolding tokensAt symOf symbolOf sameBytes readAt signPieces
+signed-back (pos n) k w at r t i e = literal-back k w at r t (ap isLiteral i) e
+signed-back (negsuc n) k w at r t i e =
+    let s = piece Kind.operator (ascii "-") in
+    record {
+      tree = literal (negated (placed at s) (placed (past at s) (piece k w)));
+      after = past (past at s) (piece k w);
+      spells = a-literal t (a-sign refl i);
+      reads = e;
+    }
 
 content-again : (q : ℕ) (s : List ℕ) → contentOf (quoted q s) ≡ s
 content-again q s =
@@ -89,9 +106,14 @@ mutual
 
   pub value-back : {m : Leaves} {b : ℕ} {u : Ty} {v : Val} → Fits m b u v → (at : ℕ) (r : List Piece) → Back m b u v at (pieces v r) r
   value-back (fit-name {w = w} t n) at r = record { tree = name (placed at (namePiece w)); after = past at (namePiece w); spells = a-name t refl; reads = refl }
-  value-back (fit-number {n = n} t h) at r = literal-back Kind.real (spellNumber n) at r t refl (simp (read-number n (h .lowest)))
-  value-back (fit-scalar {n = n} t h) at r = literal-back Kind.real (spellNumber n) at r t refl (simp (read-number n (h .lowest)))
-  value-back (fit-extent {n = n} t h) at r = literal-back Kind.whole (decimal n) at r t refl (simp (value-digits n, le-leb n maxExtent h))
+  value-back (fit-number {n = n} t h) at r =
+      let x = unsignedOf n in
+      signed-back (n .mantissa) Kind.real (spellNumber x) at r t refl (simp (read-number x (h .lowest), signed-again (n .mantissa)))
+  value-back (fit-scalar {n = n} t h) at r =
+      let x = unsignedOf n in
+      signed-back (n .mantissa) Kind.real (spellNumber x) at r t refl (simp (read-number x (h .lowest), signed-again (n .mantissa)))
+  value-back (fit-extent {z = z} t h) at r =
+      signed-back z Kind.whole (decimal (natAbs z)) at r t refl (simp (value-digits (natAbs z), signed-again z, h))
   value-back (fit-string {s = s} t h) at r = literal-back Kind.string (spellString s) at r t refl (simp (content-again (quoteFor s) s))
   value-back (fit-logical {x = x} t) at r = literal-back Kind.truth (spellTruth x) at r t refl (simp (truth-again x))
   value-back (fit-truth {x = x} t) at r = literal-back Kind.truth (spellTruth x) at r t refl (simp (truth-again x))

@@ -15,7 +15,7 @@ use Rattle.lexis.specs.Symbol.{symOf, symbolOf, terminals, symbolIn, rightRound
 use Rattle.syntax.specs.Tree.{Value, Values, Ty, Param, Header, Call, Document}
 use Rattle.syntax.specs.Tree.Value.{tuple}
 use Rattle.syntax.specs.Tree.Values.{more}
-use Rattle.syntax.specs.Grammar.{Separated, last, next, names, both, Spells, a-name, a-literal, an-empty-array, an-array, a-tuple, Items}
+use Rattle.syntax.specs.Grammar.{Separated, last, next, no-sign, a-sign, names, both, Spells, a-name, a-literal, an-empty-array, an-array, a-tuple, Items}
 use Rattle.syntax.specs.Grammar.{IsName, the-name, IsArg, a-named, IsLeft, one-pattern, a-bare-tuple}
 use Rattle.syntax.specs.Grammar.{a-semicolon, IsCall, a-call, IsBody, last-call, next-call, IsDocument, a-document}
 use Rattle.lists.specs.Reading.{Val, a-val, readAt, readEach}
@@ -101,7 +101,8 @@ argument-back at x y = row-back y (a-named refl refl (x .spells)) (λ xs n. an-a
 bare : {b : ℕ} {c : Token} {ts us ws : List Token} {v : Value} {vs : Values} → Spells names b ts v (c ∷ us) → symOf c ≡ comma → Items names equal b us vs ws
     → (t : Token) × IsLeft b ts (tuple t (more v vs)) ws
 bare (a-name {t = t} e s) q i = (t, a-bare-tuple (a-name e s) q i)
-bare (a-literal {t = t} e s) q i = (t, a-bare-tuple (a-literal e s) q i)
+bare (a-literal e (no-sign {t = t} s)) q i = (t, a-bare-tuple (a-literal e (no-sign s)) q i)
+bare (a-literal e (a-sign {s = t} s n)) q i = (t, a-bare-tuple (a-literal e (a-sign s n)) q i)
 bare (an-empty-array {o = o} e s) q i = (o, a-bare-tuple (an-empty-array e s) q i)
 bare (an-array {o = o} e s) q i = (o, a-bare-tuple (an-array e s) q i)
 bare (a-tuple {o = o} e s k j) q i = (o, a-bare-tuple (a-tuple e s k j) q i)

@@ -4,10 +4,9 @@ use mathlib.Core.Bool.{Bool, true, false, cond, _&&_}
 use mathlib.Core.List.{List, [], _∷_, _++_}
 use mathlib.Core.Option.{Option, some}
 use Prim.Native.Nat.{ℕ}
-use lib.Dec.{eqb, leb}
+use lib.Dec.{eqb}
 use Rattle.lexis.specs.Kind as Kind
-use Rattle.lexis.specs.Sizes.{maxExtent}
-use Rattle.lexis.specs.Number.{valueFrom}
+use Rattle.lexis.specs.Number.{valueFrom, signed}
 use Rattle.syntax.specs.Tree.{Value, Values, Ty, Tys}
 use Rattle.syntax.specs.Tree.Value.{name, literal, array, tuple}
 use Rattle.syntax.specs.Tree.Values.{none, more}
@@ -15,7 +14,7 @@ use Rattle.syntax.specs.Tree.Ty.{tensor, extent, scalar, logical, string, array
 use Rattle.syntax.specs.Tree.Tys.{no-type, a-type}
 use Rattle.lists.specs.Names.{namesIn, namesOf}
 use Rattle.lists.specs.Reading.{Val, Vals, vName, vNumber, vExtent, vString, vLogical, vArray, vTuple, no-val, a-val, where-true, nameAt, isNumber, contentOf}
-use Rattle.lists.specs.Reading.{numberOf, truthOf, literalAt, bind, readAt, readAll, readEach}
+use Rattle.lists.specs.Reading.{isExtent, numberOf, truthOf, literalAt, bind, readAt, readAll, readEach}
 use Rattle.writing.specs.Plan.{spellings}
 use Rattle.writing.proofs.Planned.{nothing-some, bound, both}
 use Rattle.canonical.proofs.Spelt.{spellings-append}
@@ -51,19 +50,19 @@ given-names : (b : Bool) (x : Val) {v : Val} → [] ≡ valNames x → where-tru
 given-names true x {v} n h = let e : x ≡ v = cc in rw e at n
 given-names false x n h = nothing-some h
 
-literal-names : (u : Ty) (k : ℕ) (w : List ℕ) {v : Val} → literalAt u k w ≡ some v → [] ≡ valNames v
+literal-names : (u : Ty) (n : Bool) (k : ℕ) (w : List ℕ) {v : Val} → literalAt u n k w ≡ some v → [] ≡ valNames v
 unfolding valNames
-literal-names tensor k w {v} h = go (eqb k Kind.truth) h
+literal-names tensor n k w {v} h = go (eqb k Kind.truth) h
   where
-    go : (b : Bool) → cond b (some (truthOf w)) (where-true (isNumber k) (numberOf w)) ≡ some v → [] ≡ valNames v
+    go : (b : Bool) → cond b (some (truthOf w)) (where-true (isNumber k) (numberOf n w)) ≡ some v → [] ≡ valNames v
     go true e = given-names true (truthOf w) refl e
-    go false e = given-names (isNumber k) (numberOf w) refl e
-literal-names extent k w h = given-names (eqb k Kind.whole && leb (valueFrom 0 w) maxExtent) (vExtent (valueFrom 0 w)) refl h
-literal-names scalar k w h = given-names (isNumber k) (numberOf w) refl h
-literal-names logical k w h = given-names (eqb k Kind.truth) (truthOf w) refl h
-literal-names string k w h = given-names (eqb k Kind.string) (vString (contentOf w)) refl h
-literal-names (arrayOf u) k w h = nothing-some h
-literal-names (tupleOf us) k w h = nothing-some h
+    go false e = given-names (isNumber k) (numberOf n w) refl e
+literal-names extent n k w h = given-names (eqb k Kind.whole && isExtent (signed n (valueFrom 0 w))) (vExtent (signed n (valueFrom 0 w))) refl h
+literal-names scalar n k w h = given-names (isNumber k) (numberOf n w) refl h
+literal-names logical n k w h = given-names (eqb k Kind.truth) (truthOf w) refl h
+literal-names string n k w h = given-names (eqb k Kind.string) (vString (contentOf w)) refl h
+literal-names (arrayOf u) n k w h = nothing-some h
+literal-names (tupleOf us) n k w h = nothing-some h
 
 -- ---- trees
 
@@ -81,7 +80,7 @@ mutual
 
   pub read-names : (x : Value) (u : Ty) {v : Val} → readAt x u ≡ some v → spellings (namesIn x) ≡ valNames v
   read-names (name t) u h = name-names u (t .bytes) h
-  read-names (literal t) u h = literal-names u (t .kind) (t .bytes) h
+  read-names (literal l) u h = literal-names u (l .negative) (l .token .kind) (l .token .bytes) h
   read-names (array t xs) (arrayOf u) {v} h =
       let r = bound (readAll xs u) (λ ws. some (vArray ws)) h in
       let e : vArray (r .it) ≡ v = cc (r .gives) in

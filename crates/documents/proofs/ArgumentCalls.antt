@@ -7,12 +7,12 @@ use Prim.Native.Nat.{ℕ, zero, suc, _+_, _<_}
 use native.Mathlib.Omega.{arith}
 use lib.Dec.{eqb}
 use Rattle.lexis.specs.Lexer.{Token}
-use Rattle.lexis.specs.Symbol.{symOf, isLiteral, leftRound, leftSquare, equal, aName}
-use Rattle.syntax.specs.Tree.{Value, Values, Arg}
+use Rattle.lexis.specs.Symbol.{symOf, isLiteral, leftRound, leftSquare, equal, minus, aName, aNumber}
+use Rattle.syntax.specs.Tree.{unsigned, negated, Value, Values, Arg}
 use Rattle.syntax.specs.Tree.Value.{name, literal, array, tuple}
 use Rattle.syntax.specs.Tree.Arg.{positional, named}
 use Rattle.syntax.specs.Grammar.{both}
-use Rattle.syntax.specs.Parser.{Parse, then, mapped, rest, begins, valueStep, arrayItems, tupleItems, bracketed, value, labelled, argument}
+use Rattle.syntax.specs.Parser.{expect, negative, Parse, then, mapped, rest, begins, valueStep, arrayItems, tupleItems, bracketed, value, labelled, argument}
 use Rattle.syntax.specs.Parser.Parse.{ok, bad}
 use Rattle.syntax.specs.Table.{tokenAt, toks}
 use Rattle.syntax.specs.Inner.{isLabel}
@@ -28,7 +28,8 @@ use Rattle.documents.proofs.Items.{clash, token-there, token-is}
 data Reads (t : Token) (us : List Token) : Bool → Parse Value → Type 0 where
   a-fault : {b : Bool} {c : ℕ} {ws : List Token} → Reads t us b (bad c ws)
   a-name : Reads t us true (ok (name t) us)
-  a-literal : Reads t us false (ok (literal t) us)
+  a-literal : Reads t us false (ok (literal (unsigned t)) us)
+  a-negative : {n : Token} {ws : List Token} → Reads t us false (ok (literal (negated t n)) ws)
   an-array : {vs : Values} {ws : List Token} → Reads t us false (ok (array t vs) ws)
   a-tuple : {vs : Values} {ws : List Token} → Reads t us false (ok (tuple t vs) ws)
 
@@ -45,18 +46,27 @@ module _ (t : Token) (us : List Token) where
   reads-either true p q = reads-array p
   reads-either false p q = reads-tuple q
 
-  reads-step : (p q r : Bool) {x : Parse Value} → Reads t us false x
-      → Reads t us p (cond p (ok (name t) us) (cond q (ok (literal t) us) (cond r x (bad 9 (t ∷ us)))))
-  reads-step true q r y = a-name
-  reads-step false true r y = a-literal
-  reads-step false false true y = y
-  reads-step false false false y = a-fault
+  reads-negative : Reads t us false (negative t us)
+  unfolding negative
+  reads-negative = go (expect aNumber us)
+    where
+      go : (p : Parse Token) → Reads t us false (mapped (λ n. literal (negated t n)) p)
+      go (ok n ws) = a-negative
+      go (bad c ws) = a-fault
+
+  reads-step : (p q s r : Bool) {x : Parse Value} → Reads t us false x
+      → Reads t us p (cond p (ok (name t) us) (cond q (ok (literal (unsigned t)) us) (cond s (negative t us) (cond r x (bad 9 (t ∷ us))))))
+  reads-step true q s r y = a-name
+  reads-step false true s r y = a-literal
+  reads-step false false true r y = reads-negative
+  reads-step false false false true y = y
+  reads-step false false false false y = a-fault
 
   value-reads : (b : ℕ) → Reads t us (eqb (symOf t) aName) (value both b (t ∷ us))
   unfolding value valueStep bracketed
-  value-reads zero = reads-step (eqb (symOf t) aName) (isLiteral (symOf t)) (eqb (symOf t) leftSquare || eqb (symOf t) leftRound) a-fault
+  value-reads zero = reads-step (eqb (symOf t) aName) (isLiteral (symOf t)) (eqb (symOf t) minus) (eqb (symOf t) leftSquare || eqb (symOf t) leftRound) a-fault
   value-reads (suc b) =
-      reads-step (eqb (symOf t) aName) (isLiteral (symOf t)) (eqb (symOf t) leftSquare || eqb (symOf t) leftRound)
+      reads-step (eqb (symOf t) aName) (isLiteral (symOf t)) (eqb (symOf t) minus) (eqb (symOf t) leftSquare || eqb (symOf t) leftRound)
       (reads-either (eqb (symOf t) leftSquare) (arrayItems (λ ws. value both b ws) us) (tupleItems (λ ws. value both b ws) us))
 
 no-value : (b : ℕ) {v : Value} {us : List Token} {X : Type 0} → value both b [] ≡ ok v us → X
@@ -71,6 +81,7 @@ first-is : {t : Token} {us ws : List Token} {b : Bool} {v : Value} {p : Parse Va
 first-is a-fault h = clash cc
 first-is a-name h = ok-tree h
 first-is a-literal h = ok-tree h
+first-is a-negative h = ok-tree h
 first-is an-array h = ok-tree h
 first-is a-tuple h = ok-tree h
 
@@ -108,7 +119,8 @@ module _ (b : ℕ) (t : Token) (us : List Token) {x : Arg} {ws : List Token} whe
       → Labels b t us ws (p && begins equal us) x
   labels-by a-fault e h = clash cc
   labels-by a-name e h = name-labels (begins equal us) e h
-  labels-by a-literal e h = plain-labels (literal t) false e h
+  labels-by a-literal e h = plain-labels (literal (unsigned t)) false e h
+  labels-by (a-negative {n = n}) e h = plain-labels (literal (negated t n)) false e h
   labels-by (an-array {vs = vs}) e h = plain-labels (array t vs) false e h
   labels-by (a-tuple {vs = vs}) e h = plain-labels (tuple t vs) false e h
 

@@ -1,19 +1,19 @@
 -- Flat scans over the tokens of values, left sides, arguments and names give what the trees hold: the names of a value, the uses of
 -- arguments, the `=` of a left side, the closing bracket of arguments. One token first, then values, then what is made of them.
 -- Assumes nothing.
-use mathlib.Core.Path.{_≡_, refl, sym, ap, _∙_}
+use mathlib.Core.Path.{_≡_, refl, sym, ap, subst, _∙_}
 use mathlib.Core.Bool.{Bool, true, false, cond, _&&_, _||_}
-use mathlib.Core.Logic.{_⊎_, inl, inr}
 use mathlib.Core.List.{List, [], _∷_, _++_, flatMap, append-assoc}
 use Prim.Native.Nat.{ℕ, suc}
 use native.Mathlib.Omega.{arith}
 use lib.Dec.{eqb}
 use borrow.Author.Tests.{eqb-true, eq-eqb, ne-eqb}
 use Rattle.lexis.specs.Lexer.{Token}
-use Rattle.lexis.specs.Symbol.{symOf, isLiteral, rightRound, equal, aName, aNumber, aLiteral}
-use Rattle.syntax.specs.Tree.{Value, Values, Arg}
-use Rattle.syntax.specs.Grammar.{Separated, Leaves, Spells, Items, IsArg, IsLeft}
+use Rattle.lexis.specs.Symbol.{symOf, isLiteral, rightRound, equal, minus, aName, aNumber, aLiteral}
+use Rattle.syntax.specs.Tree.{Literal, Value, Values, Arg}
+use Rattle.syntax.specs.Grammar.{IsLiteral, Separated, Leaves, Spells, Items, IsArg, IsLeft}
 use Rattle.syntax.specs.Grammar.Separated.{last, next}
+use Rattle.syntax.specs.Grammar.IsLiteral.{no-sign, a-sign}
 use Rattle.syntax.specs.Grammar.Spells.{a-name, a-literal, an-empty-array, an-array, a-tuple}
 use Rattle.syntax.specs.Grammar.Items.{last-item, next-item}
 use Rattle.syntax.specs.Grammar.IsArg.{a-positional, a-named}
@@ -23,13 +23,6 @@ use Rattle.lists.specs.Names.{those, firstToken, namesIn, namesOf, valueOf}
 use Rattle.lists.specs.Scans.{namesAmong, usesAmong, fromSymbol, openAfter, fromClose}
 
 -- ---- one token
-
-is-literal : (s : ℕ) → isLiteral s ≡ true → (s ≡ aNumber) ⊎ (s ≡ aLiteral)
-is-literal s h = go (eqb s aNumber) refl h
-  where
-    go : (c : Bool) → eqb s aNumber ≡ c → (c || eqb s aLiteral) ≡ true → (s ≡ aNumber) ⊎ (s ≡ aLiteral)
-    go true p e = inl (eqb-true s aNumber p)
-    go false p e = inr (eqb-true s aLiteral e)
 
 module _ (t : Token) (ts : List Token) {s : ℕ} (h : symOf t ≡ s) where
   -- no name
@@ -72,36 +65,48 @@ module _ (t : Token) (ts : List Token) where
   unfolding fromSymbol
   symbol-here x h = simp (eq-eqb (symOf t) x h)
 
-  -- a literal is none of these
-  module _ (h : isLiteral (symOf t) ≡ true) where
-    literal-names : namesAmong (t ∷ ts) ≡ namesAmong ts
-    literal-names = go (is-literal (symOf t) h)
-      where
-        go : (symOf t ≡ aNumber) ⊎ (symOf t ≡ aLiteral) → namesAmong (t ∷ ts) ≡ namesAmong ts
-        go (inl e) = names-past t ts e refl
-        go (inr e) = names-past t ts e refl
+-- ---- literals
 
-    literal-uses : usesAmong (t ∷ ts) ≡ usesAmong ts
-    literal-uses = go (is-literal (symOf t) h)
-      where
-        go : (symOf t ≡ aNumber) ⊎ (symOf t ≡ aLiteral) → usesAmong (t ∷ ts) ≡ usesAmong ts
-        go (inl e) = uses-past t ts e refl
-        go (inr e) = uses-past t ts e refl
+-- the terminals of a literal
+data InLiteral : ℕ → Type 0 where
+  its-number : InLiteral aNumber
+  its-word : InLiteral aLiteral
+  its-sign : InLiteral minus
 
-    literal-symbol : fromSymbol equal (t ∷ ts) ≡ fromSymbol equal ts
-    literal-symbol = go (is-literal (symOf t) h)
-      where
-        go : (symOf t ≡ aNumber) ⊎ (symOf t ≡ aLiteral) → fromSymbol equal (t ∷ ts) ≡ fromSymbol equal ts
-        go (inl e) = symbol-past t ts e equal refl
-        go (inr e) = symbol-past t ts e equal refl
+in-literal : (s : ℕ) → isLiteral s ≡ true → InLiteral s
+in-literal s h = go (eqb s aNumber) refl h
+  where
+    go : (c : Bool) → eqb s aNumber ≡ c → (c || eqb s aLiteral) ≡ true → InLiteral s
+    go true p e = subst InLiteral (sym (eqb-true s aNumber p)) its-number
+    go false p e = subst InLiteral (sym (eqb-true s aLiteral e)) its-word
 
-    literal-close : (k : ℕ) → fromClose (suc k) (t ∷ ts) ≡ fromClose (suc k) ts
-    unfolding openAfter
-    literal-close k = go (is-literal (symOf t) h)
-      where
-        go : (symOf t ≡ aNumber) ⊎ (symOf t ≡ aLiteral) → fromClose (suc k) (t ∷ ts) ≡ fromClose (suc k) ts
-        go (inl e) = close-past t ts e (suc k) k refl
-        go (inr e) = close-past t ts e (suc k) k refl
+-- a scan that goes past each of them goes past a literal
+literal-past : {X : Type 0} (F : List Token → X) → ((t : Token) (ts : List Token) (s : ℕ) → symOf t ≡ s → InLiteral s → F (t ∷ ts) ≡ F ts)
+    → {ts us : List Token} {l : Literal} → IsLiteral ts l us → F ts ≡ F us
+literal-past F f (no-sign {t = t} {ts} h) = f t ts (symOf t) refl (in-literal (symOf t) h)
+literal-past F f (a-sign {s = s} {t} {ts} h k) = f s (t ∷ ts) minus h its-sign ∙ f t ts aNumber k its-number
+
+module _ (t : Token) (ts : List Token) where
+  literal-names : {s : ℕ} → symOf t ≡ s → InLiteral s → namesAmong (t ∷ ts) ≡ namesAmong ts
+  literal-names e its-number = names-past t ts e refl
+  literal-names e its-word = names-past t ts e refl
+  literal-names e its-sign = names-past t ts e refl
+
+  literal-uses : {s : ℕ} → symOf t ≡ s → InLiteral s → usesAmong (t ∷ ts) ≡ usesAmong ts
+  literal-uses e its-number = uses-past t ts e refl
+  literal-uses e its-word = uses-past t ts e refl
+  literal-uses e its-sign = uses-past t ts e refl
+
+  literal-symbol : {s : ℕ} → symOf t ≡ s → InLiteral s → fromSymbol equal (t ∷ ts) ≡ fromSymbol equal ts
+  literal-symbol e its-number = symbol-past t ts e equal refl
+  literal-symbol e its-word = symbol-past t ts e equal refl
+  literal-symbol e its-sign = symbol-past t ts e equal refl
+
+  literal-close : (k : ℕ) {s : ℕ} → symOf t ≡ s → InLiteral s → fromClose (suc k) (t ∷ ts) ≡ fromClose (suc k) ts
+  unfolding openAfter
+  literal-close k e its-number = close-past t ts e (suc k) k refl
+  literal-close k e its-word = close-past t ts e (suc k) k refl
+  literal-close k e its-sign = close-past t ts e (suc k) k refl
 
 -- ---- values
 
@@ -118,7 +123,7 @@ mutual
 
   pub spells-names : {m : Leaves} {b : ℕ} {ts us : List Token} {v : Value} → Spells m b ts v us → namesAmong ts ≡ namesIn v ++ namesAmong us
   spells-names (a-name {t = t} {ts} p h) = names-here t ts h
-  spells-names (a-literal {t = t} {ts} p h) = literal-names t ts h
+  spells-names (a-literal p h) = literal-past (λ ts. namesAmong ts) (λ t ts s e i. literal-names t ts e i) h
   spells-names (an-empty-array {o = o} {c} {ts} h k) = names-past o (c ∷ ts) h refl ∙ names-past c ts k refl
   spells-names (an-array {o = o} {ts} h i) = names-past o ts h refl ∙ items-names refl i
   spells-names (a-tuple {o = o} {c} {ts} {us} {ws} {v} {vs} h s k i) =
@@ -139,7 +144,7 @@ mutual
 
   spells-uses : {m : Leaves} {b : ℕ} {ts us : List Token} {v : Value} → Spells m b ts v us → begins equal us ≡ false → usesAmong ts ≡ namesIn v ++ usesAmong us
   spells-uses (a-name {t = t} {ts} p h) e = uses-here t ts h e
-  spells-uses (a-literal {t = t} {ts} p h) e = literal-uses t ts h
+  spells-uses (a-literal p h) e = literal-past (λ ts. usesAmong ts) (λ t ts s e i. literal-uses t ts e i) h
   spells-uses (an-empty-array {o = o} {c} {ts} h k) e = uses-past o (c ∷ ts) h refl ∙ uses-past c ts k refl
   spells-uses (an-array {o = o} {ts} h i) e = uses-past o ts h refl ∙ items-uses refl refl i
   spells-uses (a-tuple {o = o} {c} {ts} {us} {ws} {v} {vs} h s k i) e =
@@ -164,7 +169,7 @@ before ws e c = record { token = c .token; closes = c .closes; reached = e ∙ c
 mutual
   spells-equal : {m : Leaves} {b : ℕ} {ts us : List Token} {v : Value} → Spells m b ts v us → fromSymbol equal ts ≡ fromSymbol equal us
   spells-equal (a-name {t = t} {ts} p h) = symbol-past t ts h equal refl
-  spells-equal (a-literal {t = t} {ts} p h) = literal-symbol t ts h
+  spells-equal (a-literal p h) = literal-past (fromSymbol equal) (λ t ts s e i. literal-symbol t ts e i) h
   spells-equal (an-empty-array {o = o} {c} {ts} h k) = symbol-past o (c ∷ ts) h equal refl ∙ symbol-past c ts k equal refl
   spells-equal (an-array {o = o} {ts} {us} h i) =
       let c = items-equal i in symbol-past o ts h equal refl ∙ c .reached ∙ symbol-past (c .token) us (c .closes) equal refl
@@ -181,7 +186,7 @@ mutual
 
   spells-close : {m : Leaves} {b : ℕ} {ts us : List Token} {v : Value} → (k : ℕ) → Spells m b ts v us → fromClose (suc k) ts ≡ fromClose (suc k) us
   spells-close k (a-name {t = t} {ts} p h) = close-past t ts h (suc k) k refl
-  spells-close k (a-literal {t = t} {ts} p h) = literal-close t ts h k
+  spells-close k (a-literal p h) = literal-past (fromClose (suc k)) (λ t ts s e i. literal-close t ts k e i) h
   spells-close k (an-empty-array {o = o} {c} {ts} h e) = close-past o (c ∷ ts) h (suc k) (suc k) refl ∙ close-past c ts e (suc (suc k)) k refl
   spells-close k (an-array {o = o} {ts} {us} h i) =
       let c = items-close (suc k) i in close-past o ts h (suc k) (suc k) refl ∙ c .reached ∙ close-past (c .token) us (c .closes) (suc (suc k)) k refl
@@ -214,7 +219,8 @@ pub record Starts (v : Value) (ts : List Token) : Type 0 where
 
 spells-starts : {m : Leaves} {b : ℕ} {ts us : List Token} {v : Value} → Spells m b ts v us → Starts v ts
 spells-starts (a-name {ts = ts} p h) = record { others = ts; whole = refl }
-spells-starts (a-literal {ts = ts} p h) = record { others = ts; whole = refl }
+spells-starts (a-literal p (no-sign {ts = ts} h)) = record { others = ts; whole = refl }
+spells-starts (a-literal p (a-sign {t = t} {ts} h k)) = record { others = t ∷ ts; whole = refl }
 spells-starts (an-empty-array {c = c} {ts} h k) = record { others = c ∷ ts; whole = refl }
 spells-starts (an-array {ts = ts} h i) = record { others = ts; whole = refl }
 spells-starts (a-tuple {ts = ts} h s k i) = record { others = ts; whole = refl }

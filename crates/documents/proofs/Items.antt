@@ -12,6 +12,7 @@ use Rattle.syntax.specs.declared.Parsed.{Parsed}
 use Rattle.syntax.specs.declared.Parsed.the-variants.{Done, Fault}
 use Rattle.syntax.specs.Tree.{Value}
 use Rattle.syntax.specs.Grammar.{Leaves, Spells}
+use Rattle.syntax.specs.Grammar.IsLiteral.{no-sign, a-sign}
 use Rattle.syntax.specs.Grammar.Spells.{a-name, a-literal, an-empty-array, an-array, a-tuple}
 use Rattle.syntax.specs.Parser.{Parse, Reader, rest}
 use Rattle.syntax.specs.Parser.Parse.{ok}
@@ -56,14 +57,15 @@ token-there text table n i {t} {ts} h = go (leb n i) refl
 pub token-is : (text table : List ℕ) (n i : ℕ) {t : Token} {ts : List Token} → toks text table n i ≡ t ∷ ts → t ≡ tokenAt text table i
 token-is text table n i {t} {ts} h = let z = sym h ∙ toks-more text table n i (token-there text table n i h) in cc
 
--- a leaf is one token
+-- a leaf without a sign is one token
 pub leaf-ends : (text table : List ℕ) (n i : ℕ) {m : Leaves} {b : ℕ} {v : Value} {us : List Token} → isLeafSymbol (lookahead (toks text table n i)) ≡ true
     → Spells m b (toks text table n i) v us → us ≡ toks text table n (i + 1)
 leaf-ends text table n i {m} h s = go s h ∙ toks-rest text table n i
   where
     go : {b : ℕ} {ts us : List Token} {v : Value} → Spells m b ts v us → isLeafSymbol (lookahead ts) ≡ true → us ≡ rest ts
     go (a-name q e) l = refl
-    go (a-literal q e) l = refl
+    go (a-literal q (no-sign e)) l = refl
+    go (a-literal q (a-sign e f)) l = absurd (false≢true (sym (ap isLeafSymbol e) ∙ l))
     go (an-empty-array e f) l = absurd (false≢true (sym (ap isLeafSymbol e) ∙ l))
     go (an-array e f) l = absurd (false≢true (sym (ap isLeafSymbol e) ∙ l))
     go (a-tuple e f g r) l = absurd (false≢true (sym (ap isLeafSymbol e) ∙ l))

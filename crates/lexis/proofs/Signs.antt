@@ -14,7 +14,7 @@ use mir.Syntax.{w32}
 use mir.Val.{SFits, toZ, ofZ}
 use mir.Facts.{toZ-ofZ, toZ-pos}
 use Rattle.lexis.specs.Sizes.{maxNumber, maxWritten, maxExponent}
-use Rattle.lexis.specs.Number.{isNear}
+use Rattle.lexis.specs.Number.{signed, isNear}
 
 sub-lt : (a b : ℕ) → a < b → subℕ a b ≡ negsuc (b - suc a)
 sub-lt a b h = rw (lt-ltb a b h)
@@ -55,6 +55,12 @@ sub-across a b c d e = go (decLt a b) (decLt c d)
 
 pub pos-sub : (n : ℕ) → pos n ≡ subℕ n 0
 pos-sub n = sym (sub-ge n 0 zero-le ∙ ap pos (sub-zero n))
+
+-- a signed number is one
+pub signed-sub : (minus : Bool) (n : ℕ) → subℕ (cond minus 0 n) (cond minus n 0) ≡ signed minus n
+signed-sub false n = sym (pos-sub n)
+signed-sub true zero = refl
+signed-sub true (suc n) = sub-lt 0 (suc n) (omega arith) ∙ ap negsuc (omega arith)
 
 pub add-sub : (a b n : ℕ) → subℕ a b +ℤ pos n ≡ subℕ (a + n) b
 add-sub a b n = go (decLt a b)

@@ -11,7 +11,7 @@ use lib.Seq.{getD-take, getD-drop}
 use borrow.Author.Tests.{ne-eqb, eqb-false}
 use Rattle.lexis.specs.Kind.{IsKind}
 use Rattle.lexis.specs.Words.{sameBytes}
-use Rattle.lexis.specs.Symbol.{Terminal, terminals, symbolIn, symbolOf}
+use Rattle.lexis.specs.Symbol.{Terminal, terminals, symbolIn, operatorSymbol, symbolOf}
 use Rattle.lexis.proofs.Words.{same-firsts}
 
 -- ---- keywords
@@ -58,8 +58,8 @@ mark-is text k s e h l =
     getD-take (e - s) (drop s text) 0 0 (omega arith) ∙ (getD-drop s text 0 0 ∙ ap (λ (i : ℕ). getD text i 0) (add-zero s)) in
     simp h (sym first)
 
--- an operator has no terminal of its own
-pub operator-is : (k : ℕ) (w : List ℕ) → k / 2 ≡ 3 → (k ≡ 6 → ⊥) → 0 ≡ symbolOf k w
+-- an operator has the terminal of its spelling
+pub operator-is : (k : ℕ) (w : List ℕ) → k / 2 ≡ 3 → (k ≡ 6 → ⊥) → operatorSymbol w ≡ symbolOf k w
 unfolding symbolOf
 operator-is k w h n = let e : k ≡ 7 = omega arith in rw e
 

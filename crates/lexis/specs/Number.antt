@@ -2,11 +2,11 @@
 -- Relies on `Sizes` for the bounds and `Bytes` for digits.
 use mathlib.Core.Path.{_≡_}
 use Prim.Native.Nat.{ℕ, zero, suc, pred, _+_, _-_, _*_, _/_, _%_, _^_}
-use mathlib.Core.Bool.{Bool, false, cond, _&&_, _||_}
+use mathlib.Core.Bool.{Bool, true, false, cond, _&&_, _||_}
 use mathlib.Core.List.{List, [], _∷_, _++_}
 use lib.Dec.{leb, ltb, eqb}
 use lib.ListN.{length, take, drop, getD}
-use lib.IntN.{ℤ, pos, negsuc, subℕ}
+use lib.IntN.{ℤ, pos, negsuc, negℤ, subℕ}
 use lib.Signed.{leZ}
 use Rattle.lexis.specs.declared.number.Parts.{Parts}
 use Rattle.lexis.specs.declared.number.Reduction.{Reduction}
@@ -82,9 +82,10 @@ writtenOf s p = cond (eqb (p .exp) 0) 0 (writtenIn (drop (p .whole + p .frac) s)
 unfoldable pub minusOf : List ℕ → Parts → Bool
 minusOf s p = cond (eqb (p .exp) 0) false (eqb (getD s (p .whole + p .frac + 1) 0) (byte "-"))
 
--- the exponent w as written, with a minus or not
-abbrev pub signedOf : Bool → ℕ → ℤ
-signedOf minus w = subℕ (cond minus 0 w) (cond minus w 0)
+-- the number n, with a minus before it or without one; minus zero is zero
+abbrev pub signed : Bool → ℕ → ℤ
+signed false n = pos n
+signed true n = negℤ (pos n)
 
 -- ---- reduced number: mantissa times ten to the exponent, the mantissa not divisible by ten; zero is 0 and 0
 

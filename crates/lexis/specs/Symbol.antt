@@ -12,7 +12,7 @@ use Rattle.lexis.specs.Lexer.{Token}
 
 -- ---- none
 
--- a token that the flat syntax has no place for: an operator, or a keyword that is not named below
+-- a token that the flat syntax has no place for: an operator or a keyword that is not named below
 abbrev pub other : ℕ
 other = 0
 
@@ -61,6 +61,12 @@ semicolon = 59
 -- ->
 abbrev pub arrow : ℕ
 arrow = 45
+
+-- ---- the operator of the flat syntax
+
+-- - before a number: its sign
+abbrev pub minus : ℕ
+minus = 267
 
 -- ---- names and literals
 
@@ -143,6 +149,10 @@ symbolIn (x ∷ xs) w = let r = symbolIn xs w in cond (sameBytes w (x .spelling)
 abbrev pub keywordSymbol : List ℕ → ℕ
 keywordSymbol w = symbolIn terminals w
 
+-- the terminal of an operator, by its spelling
+abbrev pub operatorSymbol : List ℕ → ℕ
+operatorSymbol w = cond (sameBytes w (ascii "-")) minus other
+
 -- the terminal of a token of kind k and bytes w
 unfoldable pub symbolOf : ℕ → List ℕ → ℕ
 symbolOf k w =
@@ -152,7 +162,8 @@ symbolOf k w =
     (cond (eqb k Kind.string) aLiteral
     (cond (eqb k Kind.truth) aLiteral
     (cond (eqb k Kind.keyword) (keywordSymbol w)
-    (cond (eqb k Kind.syntactic) (getD w 0 0) other))))))
+    (cond (eqb k Kind.operator) (operatorSymbol w)
+    (cond (eqb k Kind.syntactic) (getD w 0 0) other)))))))
 
 -- the terminal of a token
 unfoldable pub symOf : Token → ℕ
@@ -163,6 +174,6 @@ unfoldable pub symbols : List Token → List ℕ
 symbols [] = []
 symbols (t ∷ ts) = symOf t ∷ symbols ts
 
--- a literal: a number, a string, true or false
+-- a literal without a sign: a number, a string, true or false
 abbrev pub isLiteral : ℕ → Bool
 isLiteral s = eqb s aNumber || eqb s aLiteral

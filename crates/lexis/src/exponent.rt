@@ -3,12 +3,12 @@ use crate::limits::Limits;
 ghost use mathlib.Core.Path.{_≡_};
 ghost use Prim.Native.Nat.{_≤_};
 ghost use Rattle.lexis.specs.Sizes.{maxWritten, maxNumber};
-ghost use Rattle.lexis.specs.Number.{signedOf, exponentOf, isNear};
+ghost use Rattle.lexis.specs.Number.{signed, exponentOf, isNear};
 
 // The written exponent with its sign.
 fn signed(w: u32, minus: bool) -> i32
     requires { ⌜ w ≤ maxWritten ⌝ }
-    ensures { λ r. ⌜ r ≡ signedOf minus w ⌝ }
+    ensures { λ r. ⌜ r ≡ signed minus w ⌝ }
 {
     let e = w as i32;
     if minus {

@@ -62,8 +62,11 @@ impl Symbol {
 
     pub const STRING: u32 = 266;
 
+    // The sign of a number.
+    pub const MINUS: u32 = 267;
+
     // No token: the end.
-    pub const END: u32 = 267;
+    pub const END: u32 = 268;
 }
 
 // The terminal s where w is spelt so; else none of the flat syntax.
@@ -108,7 +111,7 @@ fn rare(text: &[u8], kind: u8, start: usize, end: usize) -> u32
     if kind == Kind::KEYWORD {
         return keyword(&text[start..end]);
     }
-    Symbol::OTHER
+    symbol_if(&text[start..end], b"-", Symbol::MINUS)
 }
 
 // The terminal of a token of this kind that stands from `start` to `end`: of names, numbers and other literals by a sum.

@@ -1,33 +1,35 @@
 -- What each way through the code that fits a value to a type answers, whatever stands in the two tables: a value by its first token,
 -- then the items of an array, then items and types side by side. Assumes nothing.
 use mathlib.Core.Path.{_≡_, refl, sym, ap, subst, _∙_}
-use mathlib.Core.Bool.{Bool, true, false, cond, _||_}
+use mathlib.Core.Bool.{Bool, true, false, cond, _||_, or-false}
 use mathlib.Core.List.{List, [], _∷_}
 use Prim.Native.Nat.{ℕ, zero, suc, _+_, _-_, _<_, _≤_}
 use native.Mathlib.Omega.{arith}
-use lib.Dec.{eqb}
+use lib.Dec.{eqb, leb}
 use lib.ListN.{getD, drop}
-use borrow.Author.Tests.{eqb-true, eqb-false, lt-ltb, le-ltb, le-leb}
+use borrow.Author.Tests.{eqb-true, eqb-false, lt-ltb, le-ltb, le-leb, leb-true, leb-false}
 use Rattle.lexis.specs.Lexer.{Token}
-use Rattle.lexis.specs.Symbol.{symOf, isLiteral, leftRound, rightRound, leftSquare, rightSquare, comma, aName, aNumber, aLiteral}
-use Rattle.syntax.specs.Tree.{Value, Values, Ty, Tys}
+use Rattle.lexis.specs.Symbol.{symOf, isLiteral, leftRound, rightRound, leftSquare, rightSquare, comma, minus, aName, aNumber, aLiteral}
+use Rattle.syntax.specs.Tree.{unsigned, negated, Value, Values, Ty, Tys}
 use Rattle.syntax.specs.Tree.Value.{name, literal, array, tuple}
 use Rattle.syntax.specs.Tree.Values.{none, more}
 use Rattle.syntax.specs.Tree.Ty.{arrayOf, tupleOf}
 use Rattle.syntax.specs.Tree.Tys.{no-type, a-type}
 use Rattle.syntax.specs.Grammar.{Leaves, Spells, Items, IsType, IsTypes}
+use Rattle.syntax.specs.Grammar.IsLiteral.{no-sign, a-sign}
 use Rattle.syntax.specs.Grammar.Spells.{a-name, a-literal, an-empty-array, an-array, a-tuple}
 use Rattle.syntax.specs.Grammar.Items.{last-item, next-item}
 use Rattle.syntax.specs.Parser.{rest}
 use Rattle.syntax.specs.Table.{tokenAt, toks, Holds}
-use Rattle.syntax.specs.Inner.{theEnd, lookahead}
+use Rattle.syntax.specs.Inner.{lookahead}
 use Rattle.syntax.proofs.Row.{cond-has}
 use Rattle.syntax.proofs.Table.{toks-more, toks-rest}
+use Rattle.syntax.proofs.Symbols.{stands}
 use Rattle.lists.specs.Reading.{fits}
 use Rattle.lists.specs.declared.types.TypeAt.{TypeAt}
 use Rattle.lists.specs.Types.{kindsOf, OfType}
-use Rattle.lists.specs.Fitting.{leafFits, leafFitsAt, isLeafSymbol, stacked, Several, IsBase, NoPair, Columns, InArray, fitsAll, fitsEach}
-use Rattle.lists.specs.Fitting.{Within, Fitted, leafAnswer, BaseOf, OfValue, OfArray, OfEach}
+use Rattle.lists.specs.Fitting.{leafFits, leafFitsAt, isLeafSymbol, startsLeaf, stacked, Several, IsBase, NoPair, Columns, InArray, fitsAll, fitsEach}
+use Rattle.lists.specs.Fitting.{Within, Fitted, leafAnswer, signedAnswer, BaseOf, OfValue, OfArray, OfEach}
 use Rattle.lists.specs.Fitting.Columns.{last-column, next-column}
 use Rattle.lists.specs.Fitting.InArray.{no-items, some-items}
 use Rattle.lists.proofs.Fits.{array-fits, all-none, all-more, tuple-fits, each-none, each-few, each-many, each-more, Flat, flat-no, array-no, tuple-no}
@@ -74,7 +76,8 @@ literal-range s h = literal-cases s (eqb s aNumber) (eqb s aLiteral) refl refl h
 -- what a value is, by the first of the tokens ts
 pub data Seen (m : Leaves) (ts : List Token) : Value → List Token → Type 0 where
   a-name-seen : {t : Token} {us : List Token} → ts ≡ t ∷ us → symOf t ≡ aName → Seen m ts (name t) us
-  a-literal-seen : {t : Token} {us : List Token} → ts ≡ t ∷ us → isLiteral (symOf t) ≡ true → Seen m ts (literal t) us
+  a-literal-seen : {t : Token} {us : List Token} → ts ≡ t ∷ us → isLiteral (symOf t) ≡ true → Seen m ts (literal (unsigned t)) us
+  a-sign-seen : {x t : Token} {us : List Token} → ts ≡ x ∷ t ∷ us → symOf x ≡ minus → symOf t ≡ aNumber → Seen m ts (literal (negated x t)) us
   an-array-seen : {b : ℕ} {o : Token} {xs us : List Token} {vs : Values} → ts ≡ o ∷ xs → symOf o ≡ leftSquare → InArray m b xs vs us
       → Seen m ts (array o vs) us
   a-tuple-seen : {b : ℕ} {o : Token} {xs us : List Token} {vs : Values} → ts ≡ o ∷ xs → symOf o ≡ leftRound → Items m rightRound b xs vs us
@@ -82,7 +85,8 @@ pub data Seen (m : Leaves) (ts : List Token) : Value → List Token → Type 0 w
 
 pub seen : {m : Leaves} {b : ℕ} {ts us : List Token} {v : Value} → Spells m b ts v us → Seen m ts v us
 seen (a-name h e) = a-name-seen refl e
-seen (a-literal h e) = a-literal-seen refl e
+seen (a-literal h (no-sign e)) = a-literal-seen refl e
+seen (a-literal h (a-sign e f)) = a-sign-seen refl e f
 seen (an-empty-array {b = b} e f) = an-array-seen {b = b} refl e (no-items f)
 seen (an-array e h) = an-array-seen refl e (some-items h)
 seen (a-tuple e h f i) = a-tuple-seen refl e (next-item h f i)
@@ -92,7 +96,7 @@ pub look : {ts : List Token} {t : Token} {us : List Token} {s a : ℕ} → ts �
 look p e h = h ∙ (ap lookahead p ∙ e)
 
 pub literal-look : {ts : List Token} {t : Token} {us : List Token} {s : ℕ} → ts ≡ t ∷ us → isLiteral (symOf t) ≡ true → s ≡ lookahead ts
-    → (aName < s) × (s < theEnd)
+    → (aName < s) × (s ≤ aLiteral)
 literal-look {t = t} {s = s} p f h =
     let q = literal-range (symOf t) f in
     let y : s ≡ symOf t = h ∙ ap lookahead p in
@@ -157,6 +161,7 @@ module _ (text table : List ℕ) (n i : ℕ) (ttext ttable : List ℕ) (tn t k s
       go : {v : Value} {us : List Token} → Seen m (toks text table n i) v us → fits v (stacked k w) ≡ false
       go (a-name-seen p f) = absurd (omega (arith, look p f sees))
       go (a-literal-seen p f) = absurd (omega (arith, literal-look p f sees .0))
+      go (a-sign-seen p f g) = absurd (omega (arith, look p f sees))
       go (an-array-seen {o = o} {vs = vs} p f x) = fits-none (array o vs) k w z ∙ array-no o vs h
       go (a-tuple-seen p f x) = absurd (omega (arith, look p f sees))
 
@@ -169,24 +174,32 @@ module _ (text table : List ℕ) (n i : ℕ) (ttext ttable : List ℕ) (tn t k s
       go : {v : Value} {us : List Token} → Seen m (toks text table n i) v us → fits v (stacked k w) ≡ false
       go (a-name-seen p f) = flat flat-name
       go (a-literal-seen p f) = flat flat-literal
+      go (a-sign-seen p f g) = flat flat-literal
       go (an-array-seen p f x) = absurd (e (look p f sees))
       go (a-tuple-seen p f x) = flat flat-tuple
 
-  -- the terminal of a leaf
-  name-seen : {x : Token} {us : List Token} → toks text table n i ≡ x ∷ us → symOf x ≡ aName → isLeafSymbol s ≡ true
-  name-seen p f = ap isLeafSymbol (look p f sees)
+  -- the terminal that a leaf begins with
+  name-seen : {x : Token} {us : List Token} → toks text table n i ≡ x ∷ us → symOf x ≡ aName → startsLeaf s ≡ true
+  name-seen p f = ap startsLeaf (look p f sees)
 
-  literal-seen : {x : Token} {us : List Token} → toks text table n i ≡ x ∷ us → isLiteral (symOf x) ≡ true → isLeafSymbol s ≡ true
-  literal-seen {x} p f = let q = literal-range (symOf x) f in ap isLeafSymbol (sees ∙ ap lookahead p) ∙ leaf-between (symOf x) (omega (arith, q .0)) (q .1)
+  literal-seen : {x : Token} {us : List Token} → toks text table n i ≡ x ∷ us → isLiteral (symOf x) ≡ true → startsLeaf s ≡ true
+  literal-seen {x} p f =
+      let q = literal-range (symOf x) f in
+      let e = leaf-between (symOf x) (omega (arith, q .0)) (q .1) in
+      ap startsLeaf (sees ∙ ap lookahead p) ∙ ap (λ (b : Bool). b || eqb (symOf x) minus) e
+
+  sign-seen : {x : Token} {us : List Token} → toks text table n i ≡ x ∷ us → symOf x ≡ minus → startsLeaf s ≡ true
+  sign-seen p f = ap startsLeaf (look p f sees)
 
   -- neither a leaf nor an array: a tuple, at a tuple type
-  module _ (flat : k ≡ 0) (nested : isLeafSymbol s ≡ false) (e : s ≡ leftSquare → ⊥) (o : ℕ) (type-sees : o ≡ lookahead (toks ttext ttable tn t)) where
+  module _ (flat : k ≡ 0) (nested : startsLeaf s ≡ false) (e : s ≡ leftSquare → ⊥) (o : ℕ) (type-sees : o ≡ lookahead (toks ttext ttable tn t)) where
     pub tuple-word : (s ≡ leftRound → o ≡ leftRound → ⊥) → Never
     tuple-word d m b v us c w ws g h = go (seen g)
       where
         go : {v : Value} {us : List Token} → Seen m (toks text table n i) v us → fits v (stacked k w) ≡ false
         go (a-name-seen p f) = let q = name-seen p f in absurd (clash cc)
         go (a-literal-seen p f) = let q = literal-seen p f in absurd (clash cc)
+        go (a-sign-seen p f g) = let q = sign-seen p f in absurd (clash cc)
         go (an-array-seen p f x) = absurd (e (look p f sees))
         go (a-tuple-seen {o = x} {vs = vs} p f y) = fits-none (tuple x vs) k w flat ∙ word-no-tuple h type-sees (λ q. d (look p f sees) q) x vs
 
@@ -197,6 +210,7 @@ module _ (text table : List ℕ) (n i : ℕ) (ttext ttable : List ℕ) (tn t k s
         go : {v : Value} {us : List Token} → Seen m (toks text table n i) v us → Fitted text table n (fits v (stacked k w)) us r
         go (a-name-seen p q) = let q = name-seen p q in absurd (clash cc)
         go (a-literal-seen p q) = let q = literal-seen p q in absurd (clash cc)
+        go (a-sign-seen p q x) = let q = sign-seen p q in absurd (clash cc)
         go (an-array-seen p q x) = absurd (e (look p q sees))
         go {us = us} (a-tuple-seen {b = b} {o = x} {vs = vs} p q y) =
             let z = base-columns ttext ttable tn t (h .is-base) type-sees d in
@@ -210,58 +224,145 @@ module _ (text table : List ℕ) (n i : ℕ) (ttext ttable : List ℕ) (tn t k s
       go : {v : Value} {us : List Token} → Seen m (toks text table n i) v us → Fitted text table n (fits v (stacked k w)) us r
       go (a-name-seen p f) = absurd (omega (arith, look p f sees))
       go (a-literal-seen p f) = absurd (omega (arith, literal-look p f sees .0))
+      go (a-sign-seen p f g) = absurd (omega (arith, look p f sees))
       go {us = us} (an-array-seen {b = b} {o = o} {vs = vs} p q x) =
           let xs = subst (λ (xs : List Token). InArray m b xs vs us) (behind p ∙ toks-rest text table n i) x in
           fitted-as (fits-some (array o vs) k w z ∙ array-fits o vs (stacked (k - 1) w)) (f m b vs us c w ws xs h)
       go (a-tuple-seen p f x) = absurd (omega (arith, look p f sees))
 
-  -- a leaf
-  module _ (holds : Holds text table n) (bytes : (j : ℕ) → getD text j 0 < 256) (h : i < n) (leaf : isLeafSymbol s ≡ true) where
-    leaf-is : (kinds : ℕ) → k ≡ 0 → (m : Leaves) (b : ℕ) (v : Value) (us : List Token) (c : ℕ) (w : Ty) (ws : List Token)
-        → Spells m b (toks text table n i) v us
-        → BaseOf kinds c (toks ttext ttable tn t) w ws → (fits v (stacked k w) ≡ leafFitsAt text table i kinds) × (us ≡ toks text table n (i + 1))
-    leaf-is kinds z m b v us c w ws g q = go (seen g)
-      where
-        first : {x : Token} {us : List Token} → toks text table n i ≡ x ∷ us → (x ≡ tokenAt text table i) × (us ≡ toks text table n (i + 1))
-        first p = let y = sym p ∙ toks-more text table n i h in (cc, cc)
+  -- a leaf whose token is at place p, as its answer has it
+  module _ (p : ℕ) (negative : Bool) (kinds : ℕ) where
+    abbrev EndsLeaf : Type 0
+    EndsLeaf =
+        (m : Leaves) (b : ℕ) (v : Value) (us : List Token) (c : ℕ) (w : Ty) (ws : List Token) → Spells m b (toks text table n i) v us
+        → BaseOf kinds c (toks ttext ttable tn t) w ws
+        → (fits v (stacked k w) ≡ leafFitsAt text table p kinds negative) × (us ≡ toks text table n (p + 1))
 
-        onto : {x : Token} → x ≡ tokenAt text table i → leafFits (kindsOf w) (x .kind) (x .bytes) ≡ leafFitsAt text table i kinds
-        onto p = ap (λ (y : Token). leafFits (kindsOf w) (y .kind) (y .bytes)) p ∙ ap (λ (j : ℕ). leafFitsAt text table i j) (sym (q .takes))
+    leaf-cases : (x : Bool) → leafFitsAt text table p kinds negative ≡ x → EndsLeaf
+        → OfValue text table n i (toks ttext ttable tn t) kinds k (cond x (p + 1) 0)
+    leaf-cases true e f m b v us c w ws g q = let r = f m b v us c w ws g q in fitted-yes p (r .0 ∙ e) (r .1)
+    leaf-cases false e f m b v us c w ws g q = fitted-no (f m b v us c w ws g q .0 ∙ e)
 
-        kinded : {x : Token} → x ≡ tokenAt text table i → symOf x ≡ s → LeafKind (x .kind) (symOf x)
-        kinded {x} p f = leaf-kind x (rw p (first-byte text table n i holds h bytes)) (ap isLeafSymbol f ∙ leaf)
-
-        go : {v : Value} {us : List Token} → Seen m (toks text table n i) v us
-            → (fits v (stacked k w) ≡ leafFitsAt text table i kinds) × (us ≡ toks text table n (i + 1))
-        go (a-name-seen {t = x} p f) =
-            let y = kinded (first p .0) (sym (look p refl sees)) in
-            (fits-none (name x) k w z ∙ (name-fits x (q .is-base) y f ∙ onto (first p .0)), first p .1)
-        go (a-literal-seen {t = x} p f) =
-            let y = kinded (first p .0) (sym (look p refl sees)) in
-            (fits-none (literal x) k w z ∙ (literal-fits x (q .is-base) y f ∙ onto (first p .0)), first p .1)
-        go (an-array-seen p f x) = let y = look p f sees in absurd (leaf-bracket s (omega (arith, y)) leaf)
-        go (a-tuple-seen p f x) = let y = look p f sees in absurd (leaf-bracket s (omega (arith, y)) leaf)
-
-    leaf-cases : (kinds : ℕ) (x : Bool) → leafFitsAt text table i kinds ≡ x → k ≡ 0
-        → OfValue text table n i (toks ttext ttable tn t) kinds k (cond x (i + 1) 0)
-    leaf-cases kinds true e z m b v us c w ws g q = let r = leaf-is kinds z m b v us c w ws g q in fitted-yes i (r .0 ∙ e) (r .1)
-    leaf-cases kinds false e z m b v us c w ws g q = fitted-no (leaf-is kinds z m b v us c w ws g q .0 ∙ e)
-
-    pub leaf-answer : (kinds r : ℕ) → r ≡ leafAnswer text table i kinds k → OfValue text table n i (toks ttext ttable tn t) kinds k r
-    leaf-answer kinds r e = go (eqb k 0) refl
+    answer-of : (s ≡ leftSquare → ⊥) → (k ≡ 0 → EndsLeaf) → (r : ℕ) → r ≡ leafAnswer text table p kinds k negative
+        → OfValue text table n i (toks ttext ttable tn t) kinds k r
+    answer-of d f r e = go (eqb k 0) refl
       where
         onto : {x : ℕ} → r ≡ x → OfValue text table n i (toks ttext ttable tn t) kinds k x → OfValue text table n i (toks ttext ttable tn t) kinds k r
         onto p f m b v us c w ws g q = subst (λ (y : ℕ). Fitted text table n (fits v (stacked k w)) us y) (sym p) (f m b v us c w ws g q)
 
         go : (x : Bool) → eqb k 0 ≡ x → OfValue text table n i (toks ttext ttable tn t) kinds k r
-        go true p = onto (simp p at e) (leaf-cases kinds (leafFitsAt text table i kinds) refl (eqb-true k 0 p))
-        go false p = onto (simp p at e) (never (flat-deep (λ y. leaf-bracket s (omega (arith, y)) leaf) (eqb-false k 0 p)))
+        go true z = onto (simp z at e) (leaf-cases (leafFitsAt text table p kinds negative) refl (f (eqb-true k 0 z)))
+        go false z = onto (simp z at e) (never (flat-deep d (eqb-false k 0 z)))
 
-    pub leaf-within : (kinds r : ℕ) → r ≡ leafAnswer text table i kinds k → Within n i r
-    leaf-within kinds r e =
+    within-of : i ≤ p → p < n → (r : ℕ) → r ≡ leafAnswer text table p kinds k negative → Within n i r
+    within-of l h r e =
         subst (Within n i) (sym e)
-        (cond-has (Within n i) (eqb k 0) (cond-has (Within n i) (leafFitsAt text table i kinds) (one-within n i i (omega arith) h) (none-within n i))
+        (cond-has (Within n i) (eqb k 0) (cond-has (Within n i) (leafFitsAt text table p kinds negative) (one-within n i p l h) (none-within n i))
         (none-within n i))
+
+  module _ (holds : Holds text table n) (bytes : (j : ℕ) → getD text j 0 < 256) (h : i < n) where
+    -- a token at place p
+    module _ (p : ℕ) (l : p < n) where
+      there : {x : Token} {us : List Token} → toks text table n p ≡ x ∷ us → (x ≡ tokenAt text table p) × (us ≡ toks text table n (p + 1))
+      there q = let y = sym q ∙ toks-more text table n p l in (cc, cc)
+
+      kinded : {x : Token} → x ≡ tokenAt text table p → isLeafSymbol (symOf x) ≡ true → LeafKind (x .kind) (symOf x)
+      kinded {x} q f = leaf-kind x (rw q (first-byte text table n p holds l bytes)) f
+
+      onto-kinds : {x : Token} (w : Ty) {kinds : ℕ} (negative : Bool) → x ≡ tokenAt text table p → kinds ≡ kindsOf w
+          → leafFits (kindsOf w) negative (x .kind) (x .bytes) ≡ leafFitsAt text table p kinds negative
+      onto-kinds w negative q e =
+          ap (λ (y : Token). leafFits (kindsOf w) negative (y .kind) (y .bytes)) q ∙ ap (λ (j : ℕ). leafFitsAt text table p j negative) (sym e)
+
+    -- without a sign
+    module _ (leaf : isLeafSymbol s ≡ true) where
+      leaf-is : (kinds : ℕ) → k ≡ 0 → EndsLeaf i false kinds
+      leaf-is kinds z m b v us c w ws g q = go (seen g)
+        where
+          leafy : {x : Token} {us : List Token} → toks text table n i ≡ x ∷ us → LeafKind (x .kind) (symOf x)
+          leafy p = kinded i h (there i h p .0) (ap isLeafSymbol (sym (look p refl sees)) ∙ leaf)
+
+          go : {v : Value} {us : List Token} → Seen m (toks text table n i) v us
+              → (fits v (stacked k w) ≡ leafFitsAt text table i kinds false) × (us ≡ toks text table n (i + 1))
+          go (a-name-seen {t = x} p f) =
+              (fits-none (name x) k w z ∙ (name-fits x (q .is-base) (leafy p) f ∙ onto-kinds i h w false (there i h p .0) (q .takes)), there i h p .1)
+          go (a-literal-seen {t = x} p f) = (
+            fits-none (literal (unsigned x)) k w z
+                ∙ (literal-fits (unsigned x) (q .is-base) (leafy p) f ∙ onto-kinds i h w false (there i h p .0) (q .takes)),
+            there i h p .1,
+          )
+          go (a-sign-seen p f y) = let e = ap isLeafSymbol (look p f sees) in absurd (clash cc)
+          go (an-array-seen p f x) = let y = look p f sees in absurd (leaf-bracket s (omega (arith, y)) leaf)
+          go (a-tuple-seen p f x) = let y = look p f sees in absurd (leaf-bracket s (omega (arith, y)) leaf)
+
+      pub leaf-answer : (kinds r : ℕ) → r ≡ leafAnswer text table i kinds k false → OfValue text table n i (toks ttext ttable tn t) kinds k r
+      leaf-answer kinds r e = answer-of i false kinds (λ y. leaf-bracket s (omega (arith, y)) leaf) (leaf-is kinds) r e
+
+      pub leaf-within : (kinds r : ℕ) → r ≡ leafAnswer text table i kinds k false → Within n i r
+      leaf-within kinds r e = within-of i false kinds (omega arith) h r e
+
+    -- with one
+    module _ (sign : s ≡ minus) where
+      -- of what begins with a sign, the number after it
+      number-after : {m : Leaves} {v : Value} {us : List Token} → Seen m (toks text table n i) v us → (i + 1 < n) × (x : Token) × (y : Token)
+          × (v ≡ literal (negated x y)) × (symOf y ≡ aNumber) × (toks text table n (i + 1) ≡ y ∷ us)
+      number-after (a-name-seen p f) = absurd (omega (arith, look p f sees))
+      number-after (a-literal-seen p f) = absurd (omega (arith, literal-look p f sees .1))
+      number-after (a-sign-seen {x = x} {t = y} {us = us} p f g) =
+          let q : toks text table n (i + 1) ≡ y ∷ us = sym (behind p ∙ toks-rest text table n i) in
+          (stands text table n (i + 1) (ap lookahead (sym q)) (omega (arith, g)), x, y, refl, g, q)
+      number-after (an-array-seen p f x) = absurd (omega (arith, look p f sees))
+      number-after (a-tuple-seen p f x) = absurd (omega (arith, look p f sees))
+
+      sign-is : (kinds : ℕ) → k ≡ 0 → EndsLeaf (i + 1) true kinds
+      sign-is kinds z m b v us c w ws g q =
+          let a = number-after (seen g) in
+          let l = a .0 in
+          let x = a .1 in
+          let y = a .2 in
+          let at = there (i + 1) l (a .5) in
+          let number = ap isLiteral (a .4) in (
+            ap (λ (j : Value). fits j (stacked k w)) (a .3) ∙ (fits-none (literal (negated x y)) k w z
+                ∙ (literal-fits (negated x y) (q .is-base) (kinded (i + 1) l (at .0) (ap isLeafSymbol (a .4))) number
+                ∙ onto-kinds (i + 1) l w true (at .0) (q .takes))),
+            at .1,
+          )
+
+      lone : n ≤ i + 1 → {kinds : ℕ} → OfValue text table n i (toks ttext ttable tn t) kinds k 0
+      lone l m b v us c w ws g q = absurd (omega (arith, number-after (seen g) .0))
+
+      pub sign-answer : (kinds r : ℕ) → r ≡ cond (leb n (i + 1)) 0 (leafAnswer text table (i + 1) kinds k true)
+          → OfValue text table n i (toks ttext ttable tn t) kinds k r
+      sign-answer kinds r e = go (leb n (i + 1)) refl
+        where
+          go : (x : Bool) → leb n (i + 1) ≡ x → OfValue text table n i (toks ttext ttable tn t) kinds k r
+          go true z =
+              let f : r ≡ 0 = simp z at e in
+              subst (λ (y : ℕ). OfValue text table n i (toks ttext ttable tn t) kinds k y) (sym f) (lone (leb-true n (i + 1) z))
+          go false z = answer-of (i + 1) true kinds (λ y. omega arith) (sign-is kinds) r (simp z at e)
+
+      pub sign-within : (kinds r : ℕ) → r ≡ cond (leb n (i + 1)) 0 (leafAnswer text table (i + 1) kinds k true) → Within n i r
+      sign-within kinds r e = go (leb n (i + 1)) refl
+        where
+          go : (x : Bool) → leb n (i + 1) ≡ x → Within n i r
+          go true z = let f : r ≡ 0 = simp z at e in subst (Within n i) (sym f) (none-within n i)
+          go false z = within-of (i + 1) true kinds (omega arith) (omega (arith, leb-false n (i + 1) z)) r (simp z at e)
+
+    -- a leaf or a sign
+    module _ (starts : startsLeaf s ≡ true) (kinds r : ℕ) (e : r ≡ signedAnswer text table n i s kinds k) where
+      signed-has : {X : Type 0} → ((s ≡ minus) → r ≡ cond (leb n (i + 1)) 0 (leafAnswer text table (i + 1) kinds k true) → X)
+          → (isLeafSymbol s ≡ true → r ≡ leafAnswer text table i kinds k false → X) → X
+      signed-has {X} f g = go (eqb s minus) refl
+        where
+          go : (x : Bool) → eqb s minus ≡ x → X
+          go true z = f (eqb-true s minus z) (simp z at e)
+          go false z = g (sym (or-false (isLeafSymbol s)) ∙ simp z at starts) (simp z at e)
+
+      pub signed-answer : OfValue text table n i (toks ttext ttable tn t) kinds k r
+      signed-answer = signed-has (λ d. sign-answer d kinds r) (λ d. leaf-answer d kinds r)
+
+      pub signed-within : Within n i r
+      signed-within = signed-has (λ d. sign-within d kinds r) (λ d. leaf-within d kinds r)
 
 -- ---- the items of an array
 
@@ -278,6 +379,7 @@ first-not {ts = ts} {s = s} g e f = go (seen g)
     go : {m : Leaves} {v : Value} {us : List Token} → Seen m ts v us → ⊥
     go (a-name-seen p q) = absurd (omega (arith, look p q e))
     go (a-literal-seen p q) = absurd (omega (arith, literal-look p q e .0))
+    go (a-sign-seen p q x) = absurd (omega (arith, look p q e))
     go (an-array-seen p q x) = absurd (omega (arith, look p q e))
     go (a-tuple-seen p q x) = absurd (omega (arith, look p q e))
 

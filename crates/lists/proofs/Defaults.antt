@@ -10,11 +10,11 @@ use lib.Dec.{eqb, leb}
 use lib.ListN.{length}
 use borrow.Author.Tests.{leb-true, leb-false}
 use Rattle.lexis.specs.Lexer.{Token}
-use Rattle.lexis.specs.Symbol.{symOf, isLiteral, leftRound, leftSquare, equal, aName}
-use Rattle.syntax.specs.Tree.{Value}
+use Rattle.lexis.specs.Symbol.{symOf, isLiteral, leftRound, leftSquare, equal, minus, aName, aNumber}
+use Rattle.syntax.specs.Tree.{unsigned, negated, Value}
 use Rattle.syntax.specs.Tree.Value.{name, literal, array, tuple}
 use Rattle.syntax.specs.Grammar.{Leaves, literals, takesNames, takesLiterals}
-use Rattle.syntax.specs.Parser.{Reader, mapped, begins, rest, valueStep, arrayItems, tupleItems, bracketed, value, default}
+use Rattle.syntax.specs.Parser.{expect, negative, Reader, mapped, begins, rest, valueStep, arrayItems, tupleItems, bracketed, value, default}
 use Rattle.syntax.specs.Parser.Parse.{ok, bad}
 use Rattle.syntax.specs.Table.{tokenAt, toks, placeOf, Holds}
 use Rattle.syntax.proofs.Table.{toks-none, toks-more}
@@ -31,18 +31,26 @@ opened-starts val t ts v us h = go (eqb (symOf t) leftSquare) h
     go true k = let m = mapped-ok (array t) (arrayItems val ts) k in ap startOf (sym (m .made))
     go false k = let m = mapped-ok (tuple t) (tupleItems val ts) k in ap startOf (sym (m .made))
 
+negative-starts : (t : Token) (ts : List Token) (v : Value) (us : List Token) → negative t ts ≡ ok v us → startOf v ≡ t .start
+unfolding negative
+negative-starts t ts v us h = let m = mapped-ok (λ n. literal (negated t n)) (expect aNumber ts) h in ap startOf (sym (m .made))
+
 step-starts : (m : Leaves) (opened : Token → Reader Value) (e : ℕ) (ts : List Token) (v : Value) (us : List Token)
     → ((t : Token) (ws : List Token) → opened t ws ≡ ok v us → startOf v ≡ t .start) → valueStep m opened ts ≡ ok v us → startOf v ≡ placeOf e ts
 unfolding valueStep
 step-starts m opened e [] v us f h = let z : _≡_ {A = ℕ} 0 1 = cc in absurd (omega arith)
 step-starts m opened e (t ∷ ts) v us f h =
-    go (takesNames m && eqb (symOf t) aName) (takesLiterals m && isLiteral (symOf t)) (eqb (symOf t) leftSquare || eqb (symOf t) leftRound) h
+    go (takesNames m && eqb (symOf t) aName) (takesLiterals m && isLiteral (symOf t)) (takesLiterals m && eqb (symOf t) minus)
+    (eqb (symOf t) leftSquare || eqb (symOf t) leftRound) h
   where
-    go : (a b c : Bool) → cond a (ok (name t) ts) (cond b (ok (literal t) ts) (cond c (opened t ts) (bad 9 (t ∷ ts)))) ≡ ok v us → startOf v ≡ t .start
-    go true b c k = let q : name t ≡ v = cc in ap startOf (sym q)
-    go false true c k = let q : literal t ≡ v = cc in ap startOf (sym q)
-    go false false true k = f t ts k
-    go false false false k = let z : _≡_ {A = ℕ} 0 1 = cc in absurd (omega arith)
+    go : (a b s c : Bool)
+        → cond a (ok (name t) ts) (cond b (ok (literal (unsigned t)) ts) (cond s (negative t ts) (cond c (opened t ts) (bad 9 (t ∷ ts))))) ≡ ok v us
+        → startOf v ≡ t .start
+    go true b s c k = let q : name t ≡ v = cc in ap startOf (sym q)
+    go false true s c k = let q : literal (unsigned t) ≡ v = cc in ap startOf (sym q)
+    go false false true c k = negative-starts t ts v us k
+    go false false false true k = f t ts k
+    go false false false false k = let z : _≡_ {A = ℕ} 0 1 = cc in absurd (omega arith)
 
 pub value-starts : (m : Leaves) (b e : ℕ) (ts : List Token) (v : Value) (us : List Token) → value m b ts ≡ ok v us → startOf v ≡ placeOf e ts
 unfolding value

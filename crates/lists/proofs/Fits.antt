@@ -6,7 +6,7 @@ use mathlib.Core.Option.{Option, some}
 use mathlib.Core.Option.{none as nothing}
 use Prim.Native.Nat.{ℕ}
 use Rattle.lexis.specs.Lexer.{Token}
-use Rattle.syntax.specs.Tree.{Value, Values, Ty, Tys}
+use Rattle.syntax.specs.Tree.{Literal, Value, Values, Ty, Tys}
 use Rattle.syntax.specs.Tree.Value.{name, literal, array, tuple}
 use Rattle.syntax.specs.Tree.Values.{none, more}
 use Rattle.syntax.specs.Tree.Ty.{arrayOf, tupleOf}
@@ -67,7 +67,7 @@ each-more v vs u us = some-both (readAt v u) (readEach vs us) (λ w ws. a-val w 
 -- what fits no array
 pub data Flat : Value → Type 0 where
   flat-name : {t : Token} → Flat (name t)
-  flat-literal : {t : Token} → Flat (literal t)
+  flat-literal : {l : Literal} → Flat (literal l)
   flat-tuple : {t : Token} {vs : Values} → Flat (tuple t vs)
 
 pub flat-no : {v : Value} → Flat v → (u : Ty) → fits v (arrayOf u) ≡ false

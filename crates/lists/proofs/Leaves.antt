@@ -5,26 +5,25 @@ use mathlib.Core.Bool.{Bool, true, false, cond}
 use mathlib.Core.List.{List}
 use Prim.Native.Nat.{ℕ, _+_, _-_, _<_}
 use native.Mathlib.Omega.{arith}
-use lib.Dec.{eqb, leb}
+use lib.Dec.{eqb}
 use lib.ListN.{getD, take, drop}
 use lib.Seq.{getD-take, getD-drop}
 use borrow.Author.Tests.{eq-eqb, ne-eqb, eqb-true, lt-ltb}
 use Rattle.lexis.specs.Ascii.{ascii}
 use Rattle.lexis.specs.Kind as Kind
-use Rattle.lexis.specs.Sizes.{maxExtent}
 use Rattle.lexis.specs.Words.{sameBytes}
-use Rattle.lexis.specs.Number.{valueFrom}
+use Rattle.lexis.specs.Number.{valueFrom, signed}
 use Rattle.lexis.specs.Lexer.{Token}
-use Rattle.lexis.specs.Symbol.{terminals, symbolIn, keywordSymbol, symbolOf, symOf, isLiteral, other, aName, aNumber, aLiteral}
+use Rattle.lexis.specs.Symbol.{terminals, symbolIn, keywordSymbol, operatorSymbol, symbolOf, symOf, isLiteral, other, aName, aNumber, aLiteral}
 use Rattle.lexis.specs.Symbol.{version, graph, fragment, tensorWord, extentWord, scalarWord, logicalWord, stringWord}
-use Rattle.syntax.specs.Tree.{Ty}
+use Rattle.syntax.specs.Tree.{Literal, Ty}
 use Rattle.syntax.specs.Tree.Value.{name, literal}
 use Rattle.syntax.specs.Grammar.{IsTypeName}
 use Rattle.syntax.specs.Grammar.IsTypeName.{is-tensor, is-extent, is-scalar, is-logical, is-string}
 use Rattle.syntax.specs.Table.{kindAt, startAt, endAt, tokenAt, Holds}
 use Rattle.syntax.proofs.Row.{cond-has}
 use Rattle.syntax.proofs.Right.{choice}
-use Rattle.lists.specs.Reading.{Val, where-true, nameAt, literalAt, isSome, readAt, fits}
+use Rattle.lists.specs.Reading.{isExtent, Val, where-true, nameAt, literalAt, isSome, readAt, fits}
 use Rattle.lists.specs.Types.{extentKinds, takes, kindsOf}
 use Rattle.lists.specs.Fitting.{leafFits, leafFitsAt, isLeafSymbol, IsBase}
 use Rattle.lists.specs.Fitting.IsBase.{a-word, a-tuple-base}
@@ -52,7 +51,10 @@ keyword-no-leaf w =
 pub keyword-not : (w : List ℕ) → keywordSymbol w ≡ aName → ⊥
 keyword-not w e = let q : true ≡ false = sym (ap isLeafSymbol e) ∙ keyword-no-leaf w in clash (cc)
 
--- nor is a byte
+-- nor is an operator, nor a byte
+operator-no-leaf : (w : List ℕ) → isLeafSymbol (operatorSymbol w) ≡ false
+operator-no-leaf w = cond-has (λ (x : ℕ). isLeafSymbol x ≡ false) (sameBytes w (ascii "-")) refl refl
+
 byte-no-leaf : (s : ℕ) → s < aName → isLeafSymbol s ≡ false
 byte-no-leaf s h = simp (lt-ltb s aName h)
 
@@ -74,7 +76,8 @@ leaf-kind t l =
     choice Kinded (eqb (t .kind) Kind.string) (λ e. is-kind e string-kind) (λ _.
     choice Kinded (eqb (t .kind) Kind.truth) (λ e. is-kind e truth-kind) (λ _.
     choice Kinded (eqb (t .kind) Kind.keyword) (λ _. no-kind (keyword-no-leaf (t .bytes))) (λ _.
-    choice Kinded (eqb (t .kind) Kind.syntactic) (λ _. no-kind (byte-no-leaf (getD (t .bytes) 0 0) l)) (λ _. no-kind refl)))))))
+    choice Kinded (eqb (t .kind) Kind.operator) (λ _. no-kind (operator-no-leaf (t .bytes))) (λ _.
+    choice Kinded (eqb (t .kind) Kind.syntactic) (λ _. no-kind (byte-no-leaf (getD (t .bytes) 0 0) l)) (λ _. no-kind refl))))))))
   where
     Kinded : ℕ → Type 0
     Kinded s = isLeafSymbol s ≡ true → LeafKind (t .kind) s
@@ -95,11 +98,11 @@ first-byte text table n i h l f =
 
 -- ---- leaves against type words
 
-where-some : (p : Bool) (v : Val) → isSome (where-true p v) ≡ p
+pub where-some : (p : Bool) (v : Val) → isSome (where-true p v) ≡ p
 where-some true v = refl
 where-some false v = refl
 
-name-at : {k s r : ℕ} {w : Ty} → LeafKind k s → s ≡ aName → IsTypeName r w → (x y : List ℕ) → isSome (nameAt w x) ≡ leafFits (kindsOf w) k y
+name-at : {k s r : ℕ} {w : Ty} → LeafKind k s → s ≡ aName → IsTypeName r w → (x y : List ℕ) → isSome (nameAt w x) ≡ leafFits (kindsOf w) false k y
 unfolding leafFits takes kindsOf
 name-at name-kind e is-tensor x y = refl
 name-at name-kind e is-extent x y = refl
@@ -111,64 +114,65 @@ name-at real-kind e h x y = absurd (omega arith)
 name-at string-kind e h x y = absurd (omega arith)
 name-at truth-kind e h x y = absurd (omega arith)
 
-literal-at : {k s r : ℕ} {w : Ty} → LeafKind k s → isLiteral s ≡ true → IsTypeName r w → (x : List ℕ) → isSome (literalAt w k x) ≡ leafFits (kindsOf w) k x
+literal-at : {k s r : ℕ} {w : Ty} → LeafKind k s → isLiteral s ≡ true → IsTypeName r w → (n : Bool) (x : List ℕ)
+    → isSome (literalAt w n k x) ≡ leafFits (kindsOf w) n k x
 unfolding leafFits takes kindsOf
-literal-at name-kind e h x = absurd (clash (cc))
-literal-at whole-kind e is-tensor x = refl
-literal-at whole-kind e is-extent x = where-some (leb (valueFrom 0 x) maxExtent) _
-literal-at whole-kind e is-scalar x = refl
-literal-at whole-kind e is-logical x = refl
-literal-at whole-kind e is-string x = refl
-literal-at real-kind e is-tensor x = refl
-literal-at real-kind e is-extent x = refl
-literal-at real-kind e is-scalar x = refl
-literal-at real-kind e is-logical x = refl
-literal-at real-kind e is-string x = refl
-literal-at string-kind e is-tensor x = refl
-literal-at string-kind e is-extent x = refl
-literal-at string-kind e is-scalar x = refl
-literal-at string-kind e is-logical x = refl
-literal-at string-kind e is-string x = refl
-literal-at truth-kind e is-tensor x = refl
-literal-at truth-kind e is-extent x = refl
-literal-at truth-kind e is-scalar x = refl
-literal-at truth-kind e is-logical x = refl
-literal-at truth-kind e is-string x = refl
+literal-at name-kind e h n x = absurd (clash (cc))
+literal-at whole-kind e is-tensor n x = refl
+literal-at whole-kind e is-extent n x = where-some (isExtent (signed n (valueFrom 0 x))) _
+literal-at whole-kind e is-scalar n x = refl
+literal-at whole-kind e is-logical n x = refl
+literal-at whole-kind e is-string n x = refl
+literal-at real-kind e is-tensor n x = refl
+literal-at real-kind e is-extent n x = refl
+literal-at real-kind e is-scalar n x = refl
+literal-at real-kind e is-logical n x = refl
+literal-at real-kind e is-string n x = refl
+literal-at string-kind e is-tensor n x = refl
+literal-at string-kind e is-extent n x = refl
+literal-at string-kind e is-scalar n x = refl
+literal-at string-kind e is-logical n x = refl
+literal-at string-kind e is-string n x = refl
+literal-at truth-kind e is-tensor n x = refl
+literal-at truth-kind e is-extent n x = refl
+literal-at truth-kind e is-scalar n x = refl
+literal-at truth-kind e is-logical n x = refl
+literal-at truth-kind e is-string n x = refl
 
-tuple-at : {k s : ℕ} → LeafKind k s → (x : List ℕ) → false ≡ leafFits 0 k x
+tuple-at : {k s : ℕ} → LeafKind k s → (n : Bool) (x : List ℕ) → false ≡ leafFits 0 n k x
 unfolding leafFits takes
-tuple-at name-kind x = refl
-tuple-at whole-kind x = refl
-tuple-at real-kind x = refl
-tuple-at string-kind x = refl
-tuple-at truth-kind x = refl
+tuple-at name-kind n x = refl
+tuple-at whole-kind n x = refl
+tuple-at real-kind n x = refl
+tuple-at string-kind n x = refl
+tuple-at truth-kind n x = refl
 
 -- a base takes a leaf by its kind
 pub name-fits : {c : ℕ} {ts ws : List Token} {w : Ty} (t : Token) → IsBase c ts w ws → LeafKind (t .kind) (symOf t) → symOf t ≡ aName
-    → fits (name t) w ≡ leafFits (kindsOf w) (t .kind) (t .bytes)
+    → fits (name t) w ≡ leafFits (kindsOf w) false (t .kind) (t .bytes)
 unfolding fits readAt kindsOf
 name-fits t (a-word h) k e = name-at k e h (t .bytes) (t .bytes)
-name-fits t (a-tuple-base f d h) k e = tuple-at k (t .bytes)
+name-fits t (a-tuple-base f d h) k e = tuple-at k false (t .bytes)
 
-pub literal-fits : {c : ℕ} {ts ws : List Token} {w : Ty} (t : Token) → IsBase c ts w ws → LeafKind (t .kind) (symOf t) → isLiteral (symOf t) ≡ true
-    → fits (literal t) w ≡ leafFits (kindsOf w) (t .kind) (t .bytes)
+pub literal-fits : {c : ℕ} {ts ws : List Token} {w : Ty} (l : Literal) → IsBase c ts w ws → LeafKind (l .token .kind) (symOf (l .token))
+    → isLiteral (symOf (l .token)) ≡ true → fits (literal l) w ≡ leafFits (kindsOf w) (l .negative) (l .token .kind) (l .token .bytes)
 unfolding fits readAt kindsOf
-literal-fits t (a-word h) k e = literal-at k e h (t .bytes)
-literal-fits t (a-tuple-base f d h) k e = tuple-at k (t .bytes)
+literal-fits l (a-word h) k e = literal-at k e h (l .negative) (l .token .bytes)
+literal-fits l (a-tuple-base f d h) k e = tuple-at k (l .negative) (l .token .bytes)
 
 -- ---- the leaf at a place, as the code tests it
 
-module _ (text table : List ℕ) (i kinds : ℕ) where
-  pub leaf-not-taken : takes kinds (kindAt table i) ≡ false → false ≡ leafFitsAt text table i kinds
+module _ (text table : List ℕ) (i kinds : ℕ) (negative : Bool) where
+  pub leaf-not-taken : takes kinds (kindAt table i) ≡ false → false ≡ leafFitsAt text table i kinds negative
   unfolding tokenAt leafFits
   leaf-not-taken e = simp e
 
   module _ (e : takes kinds (kindAt table i) ≡ true) where
-    pub leaf-taken : (kinds ≡ extentKinds → ⊥) → true ≡ leafFitsAt text table i kinds
+    pub leaf-taken : (kinds ≡ extentKinds → ⊥) → true ≡ leafFitsAt text table i kinds negative
     unfolding tokenAt leafFits
     leaf-taken d = simp (e, ne-eqb kinds extentKinds d)
 
     pub leaf-extent : kinds ≡ extentKinds → (s j : ℕ) → s ≡ startAt table i → j ≡ endAt table i
-        → leb (valueFrom 0 (take (j - s) (drop s text))) maxExtent ≡ leafFitsAt text table i kinds
+        → isExtent (signed negative (valueFrom 0 (take (j - s) (drop s text)))) ≡ leafFitsAt text table i kinds negative
     unfolding tokenAt leafFits
     leaf-extent d s j p q = rw (p, q) (sym (simp (e, eq-eqb kinds extentKinds d)))

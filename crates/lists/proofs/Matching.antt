@@ -37,7 +37,7 @@ use Rattle.lists.proofs.TypeTokens.{shape, base-of}
 use Rattle.lists.proofs.TypeCodes.{code-single, only-tensor}
 use Rattle.lists.proofs.Phrases.{value-is, type-is}
 use Rattle.lists.proofs.Answers.{Seen, seen, look, literal-look, behind, fits-some, toks-lead}
-use Rattle.lists.proofs.Answers.Seen.{a-name-seen, a-literal-seen, an-array-seen, a-tuple-seen}
+use Rattle.lists.proofs.Answers.Seen.{a-name-seen, a-literal-seen, a-sign-seen, an-array-seen, a-tuple-seen}
 
 clash : _≡_ {A = ℕ} 0 1 → ⊥
 clash z = omega arith
@@ -172,6 +172,7 @@ module _ (text table : List ℕ) (n i s : ℕ) (sees : s ≡ lookahead (toks tex
       go : {v : Value} {us : List Token} → Seen m (toks text table n i) v us → false ≡ (fits v (tupleOf cs) && eqb (symOf e) equal)
       go (a-name-seen p f) = refl
       go (a-literal-seen p f) = refl
+      go (a-sign-seen p f g) = refl
       go (an-array-seen p f x) = refl
       go (a-tuple-seen p f x) = absurd (d (look p f sees))
 
@@ -182,6 +183,7 @@ module _ (text table : List ℕ) (n i s : ℕ) (sees : s ≡ lookahead (toks tex
       go : {v : Value} {ys : List Token} → ys ≡ e ∷ us → Seen m (toks text table n i) v ys → x ≡ (fits v (tupleOf cs) && eqb (symOf e) equal)
       go z (a-name-seen p q) = absurd (omega (arith, look p q sees))
       go z (a-literal-seen p q) = absurd (omega (arith, literal-look p q sees .0))
+      go z (a-sign-seen p q y) = absurd (omega (arith, look p q sees))
       go z (an-array-seen p q y) = absurd (omega (arith, look p q sees))
       go {ys = ys} z (a-tuple-seen {b = b'} {o = o} {vs = vs} p q y) =
           f ∙ (whole-told text table n (fitsEach vs cs) e us r

@@ -6,8 +6,8 @@ use mathlib.Core.Option.{none as nothing}
 use Prim.Native.Nat.{ℕ}
 use Rattle.lexis.specs.Lexer.{Token}
 use Rattle.syntax.specs.Tree.{Value, Values, Ty, Tys, Param, Result, Header}
-use Rattle.syntax.specs.Grammar.{Separated, last, next, Leaves, Spells, a-name, a-literal, an-empty-array, an-array, a-tuple, Items, last-item, next-item}
-use Rattle.syntax.specs.Grammar.{Dims, no-pair, a-pair, IsType, a-plain, a-tuple-type, IsTypes, last-type, next-type}
+use Rattle.syntax.specs.Grammar.{Separated, last, next, no-sign, a-sign, Leaves, Spells, a-name, a-literal, an-empty-array, an-array, a-tuple, Items}
+use Rattle.syntax.specs.Grammar.{last-item, next-item, Dims, no-pair, a-pair, IsType, a-plain, a-tuple-type, IsTypes, last-type, next-type}
 use Rattle.syntax.specs.Grammar.{IsDefault, no-default, a-default, IsParam, a-param, IsResult, a-result, IsHeader, a-header, IsList, no-header, a-header-more}
 use Rattle.lists.specs.Names.{firstToken, namesIn, namesOf}
 
@@ -38,7 +38,8 @@ module _ (P : Token → Type 0) where
 
     pub value-good : {m : Leaves} {b : ℕ} {ts us : List Token} {v : Value} → Spells m b ts v us → Good ts → HasValue v × Good us
     value-good (a-name m s) g = (record { first = g .0; names = (g .0, tt) }, g .1)
-    value-good (a-literal m s) g = (record { first = g .0; names = tt }, g .1)
+    value-good (a-literal m (no-sign s)) g = (record { first = g .0; names = tt }, g .1)
+    value-good (a-literal m (a-sign s n)) g = (record { first = g .0; names = tt }, g .1 .1)
     value-good (an-empty-array o c) g = (record { first = g .0; names = tt }, g .1 .1)
     value-good (an-array o i) g = let r = items-good i (g .1) in (record { first = g .0; names = r .0 }, r .1)
     value-good (a-tuple {v = v} {vs = vs} o s c i) g =

@@ -53,7 +53,7 @@ data Stops : Parse Ty → Type 0 where
   faults : {c : ℕ} {us : List Token} → Stops (bad c us)
 
 end-no-pair : NoPair []
-end-no-pair z = let y : _≡_ {A = ℕ} 267 91 = z in absurd (omega arith)
+end-no-pair z = let y : _≡_ {A = ℕ} 268 91 = z in absurd (omega arith)
 
 dims-stops : (may : Bool) (u : Ty) (ts : List Token) → Stops (dims may u ts)
 unfolding dims

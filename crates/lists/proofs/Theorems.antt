@@ -1,30 +1,38 @@
--- What holds of operation lists, for every text and every lent length: acceptance in both directions, the first fault, the work area. The
--- page of the demands cites these. Assumes nothing.
-use mathlib.Core.Path.{_≡_, refl, ap, _∙_}
-use mathlib.Core.Bool.{Bool, true, false}
+-- What holds of operation lists, for every text and every lent length: acceptance in both directions, the first fault, numbers with a sign,
+-- the work area. The page of the demands cites these. Assumes nothing.
+use mathlib.Core.Path.{_≡_, refl, sym, ap, _∙_}
+use mathlib.Core.Bool.{Bool, true, false, cond}
 use mathlib.Core.List.{List, [], List·Memᴰ}
-use mathlib.Core.Logic.{_⊎_, inl, inr}
+use mathlib.Core.Logic.{_⊎_, inl, inr, _↔_}
 use mathlib.Core.Option.{Option, some}
 use mathlib.Core.Option.{none as nothing}
-use Prim.Native.Nat.{ℕ, _≤_, _<_}
+use Prim.Native.Nat.{ℕ, zero, suc, _≤_, _<_}
 use native.Mathlib.Omega.{arith}
 use lib.Dec.{leb}
 use lib.ListN.{length, replicate}
-use borrow.Author.Tests.{le-leb, lt-leb, leb-true, ne-eqb}
-use Rattle.lexis.specs.Sizes.{maxText, maxBrackets, workWords}
+use lib.IntN.{natAbs}
+use borrow.Author.Tests.{le-leb, lt-leb, leb-true, eq-eqb, ne-eqb}
+use Rattle.lexis.specs.Sizes.{maxText, maxBrackets, workWords, maxExtent}
 use Rattle.lexis.specs.Code as Code
+use Rattle.lexis.specs.Kind as Kind
+use Rattle.lexis.specs.Number.{valueFrom, signed}
 use Rattle.lexis.specs.Answer.{answer}
 use Rattle.lexis.specs.declared.Answer.{Answer}
 use Rattle.lexis.specs.Lexer.{Token, accepted, refused, lex}
-use Rattle.syntax.specs.Tree.{Header}
+use Rattle.syntax.specs.Tree.{Literal, Header}
+use Rattle.syntax.specs.Tree.Value.{literal}
+use Rattle.syntax.specs.Tree.Ty.{extent}
 use Rattle.syntax.specs.Grammar.{IsList}
 use Rattle.syntax.specs.Fault.{FirstFault}
 use Rattle.syntax.specs.Table.{placeOf}
 use Rattle.syntax.proofs.Theorems.{list-parsed, list-fault-given}
 use Rattle.lists.specs.Fault.{Fault, first, IsFirst}
+use Rattle.lists.specs.Reading.{isExtent, readAt, fits}
 use Rattle.lists.specs.ListRules.{listFaults}
 use Rattle.lists.specs.Answer.{Stage, pass, stop, guard, stageAnswer, listStages, declared, declarationsAnswer, workAfter}
 use Rattle.lists.specs.Accepted.{AcceptedList}
+use Rattle.lists.proofs.Extents.{abs-signed, extent-bound}
+use Rattle.lists.proofs.Leaves.{where-some}
 use Rattle.lists.proofs.First.{before-antisym, first-is, first-none}
 use Rattle.lists.proofs.Refusals.{list-codes}
 use Rattle.lists.proofs.Acceptance.{list-passed, list-passes}
@@ -62,6 +70,45 @@ pub list-rules : (list : List ℕ) (ts : List Token) (hs : List Header) (x : Fau
     → listStages list ≡ stop (answer (x .code) 1 (x .at) (x .detail))
 unfolding listStages
 list-rules list ts hs x e s f = rw (e, list-parsed maxBrackets ts hs .1 s, first-fault (listFaults hs) x .1 f)
+
+-- ---- numbers with a sign
+
+-- a whole number fits extent exactly when it is at most 2,147,483,647, and with a sign exactly when it is at most one more
+pub extent-ends : (l : Literal) → l .token .kind ≡ Kind.whole
+    → (fits (literal l) extent ≡ true) ↔ (valueFrom 0 (l .token .bytes) ≤ cond (l .negative) (suc maxExtent) maxExtent)
+unfolding fits readAt
+extent-ends l k =
+    let n = valueFrom 0 (l .token .bytes) in
+    let m = cond (l .negative) (suc maxExtent) maxExtent in
+    let e : fits (literal l) extent ≡ leb n m = simp (eq-eqb (l .token .kind) Kind.whole k) (where-some (isExtent (signed (l .negative) n)) _)
+    ∙ sym (extent-bound (l .negative) n) in
+    (λ h. leb-true n m (sym e ∙ h), λ h. e ∙ le-leb n m h)
+
+-- two signed numbers are equal exactly when the numbers are, and the signs too unless the numbers are zero
+pub signed-same : (a b : Bool) (m n : ℕ) → (signed a m ≡ signed b n) ↔ ((m ≡ n) × (0 < m → a ≡ b))
+signed-same a b m n = (λ h. (same h, λ l. signs a b m n l h), λ h. back m n a b (h .0) (h .1))
+  where
+    same : signed a m ≡ signed b n → m ≡ n
+    same h = sym (abs-signed a m) ∙ (ap natAbs h ∙ abs-signed b n)
+
+    clash : _≡_ {A = ℕ} 0 1 → ⊥
+    clash z = omega arith
+
+    signs : (a b : Bool) (m n : ℕ) → 0 < m → signed a m ≡ signed b n → a ≡ b
+    signs false false m n l h = refl
+    signs true true m n l h = refl
+    signs true false zero n l h = absurd (omega arith)
+    signs true false (suc m) n l h = absurd (clash cc)
+    signs false true zero n l h = absurd (omega arith)
+    signs false true (suc m) zero l h = absurd (clash cc)
+    signs false true (suc m) (suc n) l h = absurd (clash cc)
+
+    back : (m n : ℕ) (a b : Bool) → m ≡ n → (0 < m → a ≡ b) → signed a m ≡ signed b n
+    back (suc m) n a b e f = rw (← e, f (omega arith))
+    back zero n false false e f = rw (← e)
+    back zero n false true e f = rw (← e)
+    back zero n true false e f = rw (← e)
+    back zero n true true e f = rw (← e)
 
 -- ---- declarations
 

@@ -2,14 +2,13 @@
 -- a row, a flat walk over a tuple type, and what an answer of the walks over two tables says.
 use mathlib.Core.Path.{_≡_}
 use Prim.Native.Nat.{ℕ, zero, suc, _+_, _-_, _*_, _<_, _≤_}
-use mathlib.Core.Bool.{Bool, true, false, cond, not, _&&_}
+use mathlib.Core.Bool.{Bool, true, false, cond, not, _&&_, _||_}
 use mathlib.Core.List.{List, [], _∷_}
 use lib.Dec.{eqb, leb, ltb}
 use lib.ListN.{drop}
-use Rattle.lexis.specs.Sizes.{maxExtent}
-use Rattle.lexis.specs.Number.{valueFrom}
+use Rattle.lexis.specs.Number.{valueFrom, signed}
 use Rattle.lexis.specs.Lexer.{Token}
-use Rattle.lexis.specs.Symbol.{symOf, leftRound, rightRound, leftSquare, rightSquare, equal, comma, aName, aLiteral, extentWord}
+use Rattle.lexis.specs.Symbol.{symOf, leftRound, rightRound, leftSquare, rightSquare, equal, comma, minus, aName, aLiteral, extentWord}
 use Rattle.syntax.specs.Tree.{Value, Values, Ty, Tys, Result}
 use Rattle.syntax.specs.Tree.Values.{none}
 use Rattle.syntax.specs.Tree.Ty.{arrayOf, tupleOf}
@@ -19,23 +18,27 @@ use Rattle.syntax.specs.Parser.{plain, commas, row, value, type, result, left}
 use Rattle.syntax.specs.Parser.Parse.{ok}
 use Rattle.syntax.specs.Table.{tokenAt, toks}
 use Rattle.syntax.specs.Inner.{lookahead}
-use Rattle.lists.specs.Reading.{isSome, readAll, readEach, fits, allTensor, resultType}
+use Rattle.lists.specs.Reading.{isExtent, isSome, readAll, readEach, fits, allTensor, resultType}
 use Rattle.lists.specs.Types.{extentKinds, takes, kindsOf, pairsOf, resultCode}
 use Rattle.lists.specs.declared.types.Span.{Span}
 
 -- ---- leaves
 
--- a leaf of kind k and bytes w fits a type word that takes these kinds: at extent it must be small besides
-unfoldable pub leafFits : ℕ → ℕ → List ℕ → Bool
-leafFits kinds k w = takes kinds k && cond (eqb kinds extentKinds) (leb (valueFrom 0 w) maxExtent) true
+-- a leaf of kind k and bytes w, with a sign before it or without one, fits a type word that takes these kinds: at extent it must be small besides
+unfoldable pub leafFits : ℕ → Bool → ℕ → List ℕ → Bool
+leafFits kinds negative k w = takes kinds k && cond (eqb kinds extentKinds) (isExtent (signed negative (valueFrom 0 w))) true
 
 -- the one at a place of a table does
-abbrev pub leafFitsAt : List ℕ → List ℕ → ℕ → ℕ → Bool
-leafFitsAt text table i kinds = leafFits kinds (tokenAt text table i .kind) (tokenAt text table i .bytes)
+abbrev pub leafFitsAt : List ℕ → List ℕ → ℕ → ℕ → Bool → Bool
+leafFitsAt text table i kinds negative = leafFits kinds negative (tokenAt text table i .kind) (tokenAt text table i .bytes)
 
 -- the terminal s is a leaf
 abbrev pub isLeafSymbol : ℕ → Bool
 isLeafSymbol s = cond (ltb s aName) false (leb s aLiteral)
+
+-- it begins one: it is a leaf, or a sign
+abbrev pub startsLeaf : ℕ → Bool
+startsLeaf s = isLeafSymbol s || eqb s minus
 
 -- ---- types
 
@@ -147,9 +150,14 @@ isFit r = not (eqb r 0)
 abbrev pub isWhole : List ℕ → List ℕ → ℕ → ℕ → Bool
 isWhole text table n r = isFit r && eqb (lookahead (toks text table n r)) equal
 
--- the answer for the leaf at place i, against a word of these kinds under k pairs
-abbrev pub leafAnswer : List ℕ → List ℕ → ℕ → ℕ → ℕ → ℕ
-leafAnswer text table i kinds k = cond (eqb k 0) (cond (leafFitsAt text table i kinds) (i + 1) 0) 0
+-- the answer for the leaf at place i, with a sign before it or without one, against a word of these kinds under k pairs
+abbrev pub leafAnswer : List ℕ → List ℕ → ℕ → ℕ → ℕ → Bool → ℕ
+leafAnswer text table i kinds k negative = cond (eqb k 0) (cond (leafFitsAt text table i kinds negative) (i + 1) 0) 0
+
+-- the answer for what begins at place i with the terminal s: a leaf, or a sign and the number after it
+abbrev pub signedAnswer : List ℕ → List ℕ → ℕ → ℕ → ℕ → ℕ → ℕ → ℕ
+signedAnswer text table n i s kinds k =
+    cond (eqb s minus) (cond (leb n (i + 1)) 0 (leafAnswer text table (i + 1) kinds k true)) (leafAnswer text table i kinds k false)
 
 -- whatever value and type are read at place i and before ts, of these kinds and pairs, r answers whether the one fits the other
 abbrev pub OfItem : List ℕ → List ℕ → ℕ → ℕ → List Token → ℕ → ℕ → ℕ → Type 0

@@ -34,7 +34,7 @@ repeats ts = repeatsAfter [] ts
 -- the first token of a value, where it starts
 abbrev pub firstToken : Value → Token
 firstToken (name t) = t
-firstToken (literal t) = t
+firstToken (literal l) = l .first
 firstToken (array t vs) = t
 firstToken (tuple t vs) = t
 
@@ -45,7 +45,7 @@ startOf v = firstToken v .start
 unfoldable mutual
   pub namesIn : Value → List Token
   namesIn (name t) = t ∷ []
-  namesIn (literal t) = []
+  namesIn (literal l) = []
   namesIn (array t vs) = namesOf vs
   namesIn (tuple t vs) = namesOf vs
 

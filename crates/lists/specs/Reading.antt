@@ -5,16 +5,33 @@ use mathlib.Core.Bool.{Bool, true, false, cond, _&&_, _||_}
 use mathlib.Core.List.{List, [], _∷_}
 use mathlib.Core.Option.{Option, some}
 use mathlib.Core.Option.{none as nothing}
-use lib.Dec.{eqb, leb}
+use lib.Dec.{eqb}
 use lib.ListN.{length, take, drop}
+use lib.IntN.{ℤ, pos, negsuc}
+use lib.Signed.{leZ}
 use Rattle.lexis.specs.Sizes.{maxExtent}
 use Rattle.lexis.specs.Kind as Kind
-use Rattle.lexis.specs.Number.{Reduced, partsOf, reducedOf, valueFrom}
+use Rattle.lexis.specs.Number.{Reduced, partsOf, reducedOf, signed, valueFrom}
 use Rattle.syntax.specs.Tree.{Value, Values, Ty, Tys, Result}
 use Rattle.syntax.specs.Tree.Value.{name, literal, array, tuple}
 use Rattle.syntax.specs.Tree.Values.{none, more}
 use Rattle.syntax.specs.Tree.Ty.{tensor, extent, scalar, logical, string, arrayOf, tupleOf}
 use Rattle.syntax.specs.Tree.Tys.{no-type, a-type}
+
+-- ---- signed numbers
+
+-- a number of a plan: a signed mantissa, times ten to the exponent
+pub record SignedNumber : Type 0 where
+  pub mantissa : ℤ
+  pub exponent : ℤ
+
+-- a reduced number, with a sign or without one; zero has none
+abbrev pub withSign : Bool → Reduced → SignedNumber
+withSign negative r = record { mantissa = signed negative (r .mantissa); exponent = r .exponent }
+
+-- extent runs from -2,147,483,648 to 2,147,483,647 (`negsuc n` is the number -1 - n)
+unfoldable pub isExtent : ℤ → Bool
+isExtent z = leZ (negsuc maxExtent) z && leZ z (pos maxExtent)
 
 -- ---- plan values
 
@@ -23,8 +40,8 @@ use Rattle.syntax.specs.Tree.Tys.{no-type, a-type}
 mutual
   pub data Val : Type 0 where
     vName : List ℕ → Val
-    vNumber : Reduced → Val
-    vExtent : ℕ → Val
+    vNumber : SignedNumber → Val
+    vExtent : ℤ → Val
     vString : List ℕ → Val
     vLogical : Bool → Val
     vArray : Vals → Val
@@ -59,23 +76,24 @@ isNumber k = eqb k Kind.whole || eqb k Kind.real
 abbrev pub contentOf : List ℕ → List ℕ
 contentOf w = take (length w - 2) (drop 1 w)
 
-abbrev pub numberOf : List ℕ → Val
-numberOf w = vNumber (reducedOf w (partsOf w))
+abbrev pub numberOf : Bool → List ℕ → Val
+numberOf negative w = vNumber (withSign negative (reducedOf w (partsOf w)))
 
 -- `true` has four bytes, `false` five
 abbrev pub truthOf : List ℕ → Val
 truthOf w = vLogical (eqb (length w) 4)
 
--- A literal of kind k and bytes w: any number fits scalar and tensor, a whole number that is at most 2,147,483,647 extent; true and false
--- fit logical and tensor; a string fits string.
-abbrev pub literalAt : Ty → ℕ → List ℕ → Option Val
-literalAt tensor k w = cond (eqb k Kind.truth) (some (truthOf w)) (where-true (isNumber k) (numberOf w))
-literalAt extent k w = where-true (eqb k Kind.whole && leb (valueFrom 0 w) maxExtent) (vExtent (valueFrom 0 w))
-literalAt scalar k w = where-true (isNumber k) (numberOf w)
-literalAt logical k w = where-true (eqb k Kind.truth) (truthOf w)
-literalAt string k w = where-true (eqb k Kind.string) (vString (contentOf w))
-literalAt (arrayOf u) k w = nothing
-literalAt (tupleOf us) k w = nothing
+-- A literal of kind k and bytes w, with a sign or without one: any number fits scalar and tensor, a whole number that extent reaches
+-- fits extent; true and false fit logical and tensor; a string fits string. Only numbers have signs.
+abbrev pub literalAt : Ty → Bool → ℕ → List ℕ → Option Val
+literalAt tensor negative k w = cond (eqb k Kind.truth) (some (truthOf w)) (where-true (isNumber k) (numberOf negative w))
+literalAt extent negative k w =
+    where-true (eqb k Kind.whole && isExtent (signed negative (valueFrom 0 w))) (vExtent (signed negative (valueFrom 0 w)))
+literalAt scalar negative k w = where-true (isNumber k) (numberOf negative w)
+literalAt logical negative k w = where-true (eqb k Kind.truth) (truthOf w)
+literalAt string negative k w = where-true (eqb k Kind.string) (vString (contentOf w))
+literalAt (arrayOf u) negative k w = nothing
+literalAt (tupleOf us) negative k w = nothing
 
 -- ---- arrays and tuples
 
@@ -87,7 +105,7 @@ bind (some a) k = k a
 unfoldable mutual
   pub readAt : Value → Ty → Option Val
   readAt (name t) u = nameAt u (t .bytes)
-  readAt (literal t) u = literalAt u (t .kind) (t .bytes)
+  readAt (literal l) u = literalAt u (l .negative) (l .token .kind) (l .token .bytes)
   readAt (array t vs) (arrayOf u) = bind (readAll vs u) (λ ws. some (vArray ws))
   readAt (array t vs) tensor = nothing
   readAt (array t vs) extent = nothing

@@ -11,27 +11,28 @@ use lexis::symbol::Symbol;
 use syntax::list::is_label;
 use syntax::symbol::symbol_at;
 ghost use mathlib.Core.Path.{_≡_};
-ghost use mathlib.Core.Bool.{true, false};
+ghost use mathlib.Core.Bool.{true, false, cond};
 ghost use mathlib.Core.List.{List};
-ghost use Prim.Native.Nat.{ℕ, _+_, _-_, _<_, _≤_};
+ghost use Prim.Native.Nat.{ℕ, suc, _+_, _-_, _<_, _≤_};
 ghost use lib.Dec.{leb};
 ghost use Rattle.lexis.specs.Ascii.{byte};
 ghost use Rattle.lexis.specs.Sizes.{maxExtent};
-ghost use Rattle.lexis.specs.Number.{valueFrom};
+ghost use Rattle.lexis.specs.Number.{valueFrom, signed};
 ghost use Rattle.lexis.specs.Lexer.{Token};
 ghost use Rattle.lexis.specs.Symbol.{comma};
 ghost use Rattle.syntax.specs.Tree.{Ty, Tys};
 ghost use Rattle.syntax.specs.Tree.Ty.{tupleOf};
 ghost use Rattle.syntax.specs.Table.{toks, Holds};
 ghost use Rattle.syntax.specs.Inner.{theEnd, lookahead};
-ghost use Rattle.lists.specs.Fitting.{leafFitsAt, isLeafSymbol, leafAnswer, stacked, Several, Columns, OfShape};
+ghost use Rattle.lists.specs.Reading.{isExtent};
+ghost use Rattle.lists.specs.Fitting.{leafFitsAt, isLeafSymbol, startsLeaf, leafAnswer, signedAnswer, stacked, Several, Columns, OfShape};
 ghost use Rattle.lists.specs.Fitting.{Within, isWhole, OfItem, BaseOf, OfValue, OfArray, OfEach, OfLeft, OfWhole, MatchesResults};
 
 // The answer of the functions here is the place after the value where it fits, which is never 0, and 0 where not. Numbers cross a call in
 // a register, and these functions call each other for every bracket.
 const MISFIT: usize = 0;
 
-// A number of fewer bytes is at most 2,147,483,647, whatever the bytes are.
+// A number of fewer bytes fits an extent, whatever the bytes are.
 const SHORT: usize = 8;
 
 // The number of a digit.
@@ -46,15 +47,26 @@ fn digit(b: u8) -> u64
     d as u64
 }
 
-// Whether the number that digits spell is at most 2,147,483,647.
-fn is_small(w: &[u8]) -> bool
-    ensures { λ r. ⌜ r ≡ leb (valueFrom 0 (now (w .entry))) maxExtent ⌝ }
+// The largest number that fits an extent after a sign, or without one.
+fn extent_bound(negative: bool) -> u64
+    ensures { λ r. ⌜ r ≡ cond negative (suc maxExtent) maxExtent ⌝ }
+{
+    if negative {
+        return Limits::EXTENT + 1;
+    }
+    Limits::EXTENT
+}
+
+// Whether the number that digits spell is at most this.
+fn is_at_most(w: &[u8], bound: u64) -> bool
+    requires { ⌜ bound ≤ suc maxExtent ⌝ }
+    ensures { λ r. ⌜ r ≡ leb (valueFrom 0 (now (w .entry))) bound ⌝ }
 {
     let mut v = 0;
     let mut i = 0;
     while i < w.len() {
         v = v * 10 + digit(w[i]);
-        if Limits::EXTENT < v {
+        if bound < v {
             return false;
         }
         i += 1;
@@ -62,14 +74,14 @@ fn is_small(w: &[u8]) -> bool
     true
 }
 
-// The same, without a look at few digits.
-fn is_extent(w: &[u8]) -> bool
-    ensures { λ r. ⌜ r ≡ leb (valueFrom 0 (now (w .entry))) maxExtent ⌝ }
+// Whether the number that digits spell fits an extent, with a sign before them or without one. Few digits need no look.
+fn is_extent(w: &[u8], negative: bool) -> bool
+    ensures { λ r. ⌜ r ≡ isExtent (signed negative (valueFrom 0 (now (w .entry)))) ⌝ }
 {
     if w.len() < SHORT {
         return true;
     }
-    is_small(w)
+    is_at_most(w, extent_bound(negative))
 }
 
 fn size(x: u32) -> usize
@@ -78,11 +90,11 @@ fn size(x: u32) -> usize
     x as usize
 }
 
-// Whether the leaf at place `at` fits a type word of these kinds.
-fn leaf_fits(text: &[u8], table: &[u32], n: usize, at: usize, kinds: u32) -> bool
+// Whether the leaf at place `at`, with a sign before it or without one, fits a type word of these kinds.
+fn leaf_fits(text: &[u8], table: &[u32], n: usize, at: usize, kinds: u32, negative: bool) -> bool
     requires { ⌜ Holds (now text) (now table) n ⌝ }
     requires { ⌜ at < n ⌝ }
-    ensures { λ r. ⌜ r ≡ leafFitsAt (now (text .entry)) (now (table .entry)) at kinds ⌝ }
+    ensures { λ r. ⌜ r ≡ leafFitsAt (now (text .entry)) (now (table .entry)) at kinds negative ⌝ }
 {
     let i = at * Limits::RECORD_WORDS;
     if !takes(kinds, table[i]) {
@@ -93,7 +105,7 @@ fn leaf_fits(text: &[u8], table: &[u32], n: usize, at: usize, kinds: u32) -> boo
     }
     let start = size(table[i + 1]);
     let end = size(table[i + 2]);
-    is_extent(&text[start..end])
+    is_extent(&text[start..end], negative)
 }
 
 // Whether the terminal s is a leaf.
@@ -106,19 +118,60 @@ pub fn is_leaf(s: u32) -> bool
     s <= Symbol::LITERAL
 }
 
-// The leaf at place `at` against a type word of these kinds under k pairs of square brackets.
-fn fits_leaf(text: &[u8], table: &[u32], n: usize, at: usize, kinds: u32, k: usize) -> usize
+// Whether the terminal s begins a leaf: it is one, or a sign.
+fn starts_leaf(s: u32) -> bool
+    ensures { λ r. ⌜ r ≡ startsLeaf s ⌝ }
+{
+    if is_leaf(s) {
+        return true;
+    }
+    s == Symbol::MINUS
+}
+
+// The leaf at place `at`, with a sign before it or without one, against a type word of these kinds under k pairs of square brackets.
+fn fits_leaf(
+    text: &[u8],
+    table: &[u32],
+    n: usize,
+    at: usize,
+    kinds: u32,
+    k: usize,
+    negative: bool,
+) -> usize
     requires { ⌜ Holds (now text) (now table) n ⌝ }
     requires { ⌜ at < n ⌝ }
-    ensures { λ r. ⌜ r ≡ leafAnswer (now (text .entry)) (now (table .entry)) at kinds k ⌝ }
+    ensures { λ r. ⌜ r ≡ leafAnswer (now (text .entry)) (now (table .entry)) at kinds k negative ⌝ }
 {
     if k != 0 {
         return MISFIT;
     }
-    if leaf_fits(text, table, n, at, kinds) {
+    if leaf_fits(text, table, n, at, kinds, negative) {
         return at + 1;
     }
     MISFIT
+}
+
+// The same for the leaf that begins at place `at` with the terminal s: where that is a sign, the number stands after it.
+fn fits_signed(
+    text: &[u8],
+    table: &[u32],
+    n: usize,
+    at: usize,
+    s: u32,
+    kinds: u32,
+    k: usize,
+) -> usize
+    requires { ⌜ Holds (now text) (now table) n ⌝ }
+    requires { ⌜ at < n ⌝ }
+    ensures { λ r. ⌜ r ≡ signedAnswer (now (text .entry)) (now (table .entry)) n at s kinds k ⌝ }
+{
+    if s != Symbol::MINUS {
+        return fits_leaf(text, table, n, at, kinds, k, false);
+    }
+    if n <= at + 1 {
+        return MISFIT;
+    }
+    fits_leaf(text, table, n, at + 1, kinds, k, true)
 }
 
 // Whether the terminals s and w are a and b.
@@ -158,8 +211,8 @@ fn fits_base(
         }
         return fits_array(vtext, vtable, vn, v + 1, ttext, ttable, tn, t, kinds, k - 1);
     }
-    if is_leaf(s) {
-        return fits_leaf(vtext, vtable, vn, v, kinds, k);
+    if starts_leaf(s) {
+        return fits_signed(vtext, vtable, vn, v, s, kinds, k);
     }
     if k != 0 {
         return MISFIT;
@@ -196,7 +249,7 @@ fn fits_one(
 {
     let s = symbol_at(vtext, vtable, vn, v);
     if is_leaf(s) {
-        return fits_leaf(vtext, vtable, vn, v, kinds, k);
+        return fits_leaf(vtext, vtable, vn, v, kinds, k, false);
     }
     fits_base(vtext, vtable, vn, v, s, ttext, ttable, tn, t, kinds, k)
 }
@@ -227,7 +280,7 @@ fn fits_array(
     loop {
         let c = symbol_at(vtext, vtable, vn, i);
         let next = if is_leaf(c) {
-            fits_leaf(vtext, vtable, vn, i, kinds, k)
+            fits_leaf(vtext, vtable, vn, i, kinds, k, false)
         } else {
             fits_base(vtext, vtable, vn, i, c, ttext, ttable, tn, t, kinds, k)
         };

@@ -19,7 +19,7 @@ pub struct LeafKinds {}
 impl LeafKinds {
     pub const TUPLE: u32 = 0;
 
-    // Whole numbers, at most 2,147,483,647.
+    // Whole numbers that extent reaches.
     pub const EXTENT: u32 = 4;
 
     // Whole and real numbers.

@@ -9,13 +9,14 @@ use native.Mathlib.Omega.{arith}
 use lib.Dec.{eqb}
 use borrow.Author.Tests.{eq-eqb, ne-eqb}
 use Rattle.lexis.specs.Lexer.{Token}
-use Rattle.lexis.specs.Symbol.{symOf, isLiteral, leftRound, rightRound, leftSquare, rightSquare, rightCurly, equal, comma, semicolon, aName}
-use Rattle.syntax.specs.Tree.{Value, Values, Ty, Tys, Param, Result, Header, Arg, Call, Document}
+use Rattle.lexis.specs.Symbol.{symOf, isLiteral, leftRound, rightRound, leftSquare, rightSquare, rightCurly, equal, comma, semicolon, aName, minus}
+use Rattle.syntax.specs.Tree.{Literal, unsigned, Value, Values, Ty, Tys, Param, Result, Header, Arg, Call, Document}
 use Rattle.syntax.specs.Tree.Value.{name, literal, array, tuple}
 use Rattle.syntax.specs.Tree.Arg.{positional}
-use Rattle.syntax.specs.Grammar.{Separated, Leaves, takesNames, takesLiterals, Spells, Items, IsTypeName, Dims, IsType, IsTypes, IsDefault, IsParam}
-use Rattle.syntax.specs.Grammar.{IsResult, IsHeader, IsList, IsName, IsArg, IsLeft, IsEnd, IsCall, IsBody, IsDocument}
+use Rattle.syntax.specs.Grammar.{Separated, IsLiteral, Leaves, takesNames, takesLiterals, Spells, Items, IsTypeName, Dims, IsType, IsTypes}
+use Rattle.syntax.specs.Grammar.{IsDefault, IsParam, IsResult, IsHeader, IsList, IsName, IsArg, IsLeft, IsEnd, IsCall, IsBody, IsDocument}
 use Rattle.syntax.specs.Grammar.Separated.{last, next}
+use Rattle.syntax.specs.Grammar.IsLiteral.{no-sign, a-sign}
 use Rattle.syntax.specs.Grammar.Leaves.{names, both}
 use Rattle.syntax.specs.Grammar.Spells.{a-name, a-literal, an-empty-array, an-array, a-tuple}
 use Rattle.syntax.specs.Grammar.Items.{last-item, next-item}
@@ -35,7 +36,7 @@ use Rattle.syntax.specs.Grammar.IsEnd.{no-semicolon, a-semicolon}
 use Rattle.syntax.specs.Grammar.IsCall.{a-call}
 use Rattle.syntax.specs.Grammar.IsBody.{last-call, next-call}
 use Rattle.syntax.specs.Grammar.IsDocument.{a-document}
-use Rattle.syntax.specs.Parser.{Reader, expect, begins, rest, Row, follow, Lists, plain, values, types, row, valueStep, arrayItems, tupleItems}
+use Rattle.syntax.specs.Parser.{Reader, expect, begins, rest, Row, follow, Lists, plain, values, types, row, negative, valueStep, arrayItems, tupleItems}
 use Rattle.syntax.specs.Parser.{bracketed, value, typeName, dims, tupleTypes, baseStep, type, default, param, result, header, operations, labelled}
 use Rattle.syntax.specs.Parser.{argument, left, call, document}
 use Rattle.syntax.specs.Parser.Parse.{ok}
@@ -75,7 +76,7 @@ and-false false = refl
 
 -- the terminals that begin a value
 abbrev starter : ℕ → Bool
-starter s = isLiteral s || (eqb s aName || (eqb s leftSquare || eqb s leftRound))
+starter s = isLiteral s || (eqb s minus || (eqb s aName || (eqb s leftSquare || eqb s leftRound)))
 
 data Starts : List Token → Type 0 where
   starts : {t : Token} {ts : List Token} → starter (symOf t) ≡ true → Starts (t ∷ ts)
@@ -89,7 +90,8 @@ not-begins s k (starts {t} h) = apart starter (symOf t) s h k
 
 spells-starts : {m : Leaves} {b : ℕ} {ts us : List Token} {v : Value} → Spells m b ts v us → Starts ts
 spells-starts (a-name {t = t} p q) = starts {t = t} (rw q)
-spells-starts (a-literal {t = t} p q) = starts {t = t} (rw q)
+spells-starts (a-literal p (no-sign {t = t} q)) = starts {t = t} (rw q)
+spells-starts (a-literal p (a-sign {s = s} q r)) = starts {t = s} (rw q)
 spells-starts (an-empty-array {o = o} p q) = starts {t = o} (rw p)
 spells-starts (an-array {o = o} p q) = starts {t = o} (rw p)
 spells-starts (a-tuple {o = o} p q r s) = starts {t = o} (rw p)
@@ -103,9 +105,13 @@ module _ (m : Leaves) (k : Token → Reader Value) (t : Token) (ts : List Token)
   unfolding valueStep
   name-step p q = rw (p, q)
 
-  literal-step : takesLiterals m ≡ true → isLiteral (symOf t) ≡ true → valueStep m k (t ∷ ts) ≡ ok (literal t) ts
+  literal-step : takesLiterals m ≡ true → isLiteral (symOf t) ≡ true → valueStep m k (t ∷ ts) ≡ ok (literal (unsigned t)) ts
   unfolding valueStep
   literal-step p q = rw (apart isLiteral (symOf t) aName q refl, and-false (takesNames m), p, q)
+
+  sign-step : takesLiterals m ≡ true → symOf t ≡ minus → valueStep m k (t ∷ ts) ≡ negative t ts
+  unfolding valueStep
+  sign-step p q = rw (q, and-false (takesNames m), p)
 
   square-step : symOf t ≡ leftSquare → valueStep m k (t ∷ ts) ≡ k t ts
   unfolding valueStep
@@ -115,11 +121,17 @@ module _ (m : Leaves) (k : Token → Reader Value) (t : Token) (ts : List Token)
   unfolding valueStep
   round-step e = rw (e, and-false (takesNames m), and-false (takesLiterals m))
 
-leaf : (m : Leaves) (b : ℕ) (t : Token) (ts : List Token) {v : Value} → ((k : Token → Reader Value) → valueStep m k (t ∷ ts) ≡ ok v ts)
-    → value m b (t ∷ ts) ≡ ok v ts
+leaf : (m : Leaves) (b : ℕ) (ts : List Token) {v : Value} {us : List Token} → ((k : Token → Reader Value) → valueStep m k ts ≡ ok v us)
+    → value m b ts ≡ ok v us
 unfolding value
-leaf m zero t ts h = h _
-leaf m (suc b) t ts h = h _
+leaf m zero ts h = h _
+leaf m (suc b) ts h = h _
+
+literal-complete : (m : Leaves) {ts us : List Token} {l : Literal} → takesLiterals m ≡ true → IsLiteral ts l us → (k : Token → Reader Value)
+    → valueStep m k ts ≡ ok (literal l) us
+unfolding negative expect
+literal-complete m p (no-sign {t = t} {ts} q) k = literal-step m k t ts p q
+literal-complete m p (a-sign {s = s} {t} {ts} q r) k = sign-step m k s (t ∷ ts) p q ∙ rw r
 
 module _ (m : Leaves) (b : ℕ) (o : Token) (ts us : List Token) where
   array-complete : {vs : Values} → symOf o ≡ leftSquare → arrayItems (value m b) ts ≡ ok vs us → value m (suc b) (o ∷ ts) ≡ ok (array o vs) us
@@ -134,8 +146,8 @@ mutual
   unfolding arrayItems tupleItems expect
 
   pub value-complete : {m : Leaves} {b : ℕ} {ts us : List Token} {v : Value} → Spells m b ts v us → value m b ts ≡ ok v us
-  value-complete {m} {b} (a-name {t = t} {ts = ts} p q) = leaf m b t ts (λ k. name-step m k t ts p q)
-  value-complete {m} {b} (a-literal {t = t} {ts = ts} p q) = leaf m b t ts (λ k. literal-step m k t ts p q)
+  value-complete {m} {b} (a-name {t = t} {ts = ts} p q) = leaf m b (t ∷ ts) (λ k. name-step m k t ts p q)
+  value-complete {m} {b} (a-literal {ts = ts} p q) = leaf m b ts (literal-complete m p q)
   value-complete {m} (an-empty-array {b = b} {o = o} {c = c} {ts = ts} p q) = array-complete m b o (c ∷ ts) ts p (rw q)
   value-complete {m} (an-array {b = b} {o = o} {ts = ts} {us = us} p i) =
       array-complete m b o ts us p (rw (not-begins rightSquare refl (items-starts i)) (items-complete refl i))
@@ -271,14 +283,14 @@ operations-complete {b} (a-header-more {ts = ts} {us = us} {h = h} {hs = hs} g l
 
 positional-complete : (b : ℕ) (v : Value) (us : List Token) → labelled v false b us ≡ ok (positional v) us
 positional-complete b (name t) us = refl
-positional-complete b (literal t) us = refl
+positional-complete b (literal l) us = refl
 positional-complete b (array t vs) us = refl
 positional-complete b (tuple t vs) us = refl
 
 pub argument-complete : {b : ℕ} {ts us : List Token} {a : Arg} → begins equal us ≡ false → IsArg b ts a us → argument b ts ≡ ok a us
 unfolding argument
 argument-complete {b} n (a-positional {us = us} {v = v} h) = rw (value-complete h, n) (positional-complete b v us)
-argument-complete {b} n (a-named {n = t} {e = e} {ts = ts} p q h) = rw (leaf both b t (e ∷ ts) (λ k. name-step both k t (e ∷ ts) refl p), q, value-complete h)
+argument-complete {b} n (a-named {n = t} {e = e} {ts = ts} p q h) = rw (leaf both b (t ∷ e ∷ ts) (λ k. name-step both k t (e ∷ ts) refl p), q, value-complete h)
 
 one-complete : {ts : List Token} (b : ℕ) (e : Token) (us : List Token) (v : Value) → Starts ts → value names b ts ≡ ok v (e ∷ us) → symOf e ≡ equal
     → left b ts ≡ ok v us

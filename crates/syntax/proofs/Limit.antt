@@ -8,12 +8,13 @@ use native.Mathlib.Omega.{arith}
 use lib.Dec.{eqb}
 use lib.ListN.{length}
 use Rattle.lexis.specs.Lexer.{Token}
-use Rattle.lexis.specs.Symbol.{symOf, isLiteral, leftRound, rightRound, leftSquare, rightSquare, leftCurly, colon, equal, comma, arrow, aName, aNumber}
+use Rattle.lexis.specs.Symbol.{symOf, isLiteral, leftRound, rightRound, leftSquare, rightSquare, leftCurly, colon, equal, comma, arrow, aName, aNumber, minus}
 use Rattle.lexis.specs.Symbol.{version, graph, fragment}
 use Rattle.syntax.specs.Tree.{Value, Ty}
 use Rattle.syntax.specs.Tree.Value.{name, literal, array, tuple}
 use Rattle.syntax.specs.Grammar.{Leaves, names, literals, both, takesNames, takesLiterals}
-use Rattle.syntax.specs.Parser.{Parse, Reader, Row, Follow, Lists, then, mapped, expect, begins, rest, follow, onward, rowF, row, plain, valueStep}
+use Rattle.syntax.specs.Parser.{Parse, Reader, Row, Follow, Lists, then, mapped, expect, begins, rest, follow, onward, rowF, row, plain, negative}
+use Rattle.syntax.specs.Parser.{valueStep}
 use Rattle.syntax.specs.Parser.{arrayItems, tupleItems, bracketed, value, dims, tupleTypes, baseStep, type, default, param, result, header, operations}
 use Rattle.syntax.specs.Parser.{labelled, argument, left, call, document}
 use Rattle.syntax.specs.Parser.Parse.{ok, bad}
@@ -75,7 +76,8 @@ value-step-raised m f g h [] = same-fault
 value-step-raised m f g h (t ∷ ts) =
     cond-raised (takesNames m && eqb (symOf t) aName) same-tree
     (cond-raised (takesLiterals m && isLiteral (symOf t)) same-tree
-    (cond-raised (eqb (symOf t) leftSquare || eqb (symOf t) leftRound) (h t ts) same-fault))
+    (cond-raised (takesLiterals m && eqb (symOf t) minus) (same (negative t ts))
+    (cond-raised (eqb (symOf t) leftSquare || eqb (symOf t) leftRound) (h t ts) same-fault)))
 
 bracketed-raised : (f g : Reader Value) → Raises f g → (t : Token) → Raises (bracketed f t) (bracketed g t)
 unfolding bracketed arrayItems tupleItems
@@ -159,7 +161,7 @@ module _ (b b' : ℕ) (l : b ≤ b') where
   labelled-raised : (v : Value) (e : Bool) → Raises (labelled v e b) (labelled v e b')
   labelled-raised (name t) true us = mapped-raised _ (value-raised both b b' l (rest us))
   labelled-raised (name t) false us = same-tree
-  labelled-raised (literal t) e us = same-tree
+  labelled-raised (literal l) e us = same-tree
   labelled-raised (array t vs) e us = same-tree
   labelled-raised (tuple t vs) e us = same-tree
 

@@ -14,13 +14,13 @@ use Rattle.syntax.specs.declared.Parsed.{Parsed}
 use Rattle.syntax.specs.declared.Parsed.the-variants.{Done}
 use Rattle.syntax.specs.declared.list.Item.{Item}
 use Rattle.syntax.specs.declared.list.Item.the-variants.{Name, Parameter, Result, Argument}
-use Rattle.lexis.specs.Symbol.{symOf, isLiteral, leftRound, rightRound, leftSquare, colon, equal, aName}
-use Rattle.syntax.specs.Tree.{Value, Values}
+use Rattle.lexis.specs.Symbol.{symOf, isLiteral, leftRound, rightRound, leftSquare, colon, equal, aName, minus, aNumber}
+use Rattle.syntax.specs.Tree.{Literal, unsigned, negated, Value, Values}
 use Rattle.syntax.specs.Tree.Value.{name, literal, array, tuple}
 use Rattle.syntax.specs.Tree.Arg.{named}
 use Rattle.syntax.specs.Grammar.{literals, both}
-use Rattle.syntax.specs.Parser.{Parse, then, mapped, expect, begins, rest, row, plain, commas, valueStep, bracketed, arrayItems, tupleItems, value, type}
-use Rattle.syntax.specs.Parser.{default, param, result, labelled, argument}
+use Rattle.syntax.specs.Parser.{Parse, then, mapped, expect, begins, rest, row, plain, commas, negative, valueStep, bracketed, arrayItems}
+use Rattle.syntax.specs.Parser.{tupleItems, value, type, default, param, result, labelled, argument}
 use Rattle.syntax.specs.Parser.Parse.{ok, bad}
 use Rattle.syntax.specs.Table.{toks, parsed}
 use Rattle.syntax.specs.Inner.{lookahead, onwards, isLabel, reader}
@@ -87,7 +87,7 @@ module _ (text table : List ℕ) (e n i b : ℕ) where
 -- what was read is no name
 data Plain : Parse Value → Type 0 where
   a-fault : {c : ℕ} {us : List Token} → Plain (bad c us)
-  a-literal : {t : Token} {us : List Token} → Plain (ok (literal t) us)
+  a-literal : {l : Literal} {us : List Token} → Plain (ok (literal l) us)
   an-array : {t : Token} {vs : Values} {us : List Token} → Plain (ok (array t vs) us)
   a-tuple : {t : Token} {vs : Values} {us : List Token} → Plain (ok (tuple t vs) us)
 
@@ -99,18 +99,28 @@ tuple-plain : (t : Token) (p : Parse Values) → Plain (mapped (tuple t) p)
 tuple-plain t (ok vs us) = a-tuple
 tuple-plain t (bad c us) = a-fault
 
-plain-by : (t : Token) (us : List Token) (p q r : Bool) (x : Parse Value) → p ≡ false → Plain x
-    → Plain (cond p (ok (name t) us) (cond q (ok (literal t) us) (cond r x (bad 9 (t ∷ us)))))
-plain-by t us true q r x h y = clash (sym h)
-plain-by t us false true r x h y = a-literal
-plain-by t us false false true x h y = y
-plain-by t us false false false x h y = a-fault
+negative-plain : (t : Token) (us : List Token) → Plain (negative t us)
+unfolding negative
+negative-plain t us = go (expect aNumber us)
+  where
+    go : (p : Parse Token) → Plain (mapped (λ n. literal (negated t n)) p)
+    go (ok n us) = a-literal
+    go (bad c us) = a-fault
+
+plain-by : (t : Token) (us : List Token) (p q s r : Bool) (x : Parse Value) → p ≡ false → Plain x
+    → Plain (cond p (ok (name t) us) (cond q (ok (literal (unsigned t)) us) (cond s (negative t us) (cond r x (bad 9 (t ∷ us))))))
+plain-by t us true q s r x h y = clash (sym h)
+plain-by t us false true s r x h y = a-literal
+plain-by t us false false true r x h y = negative-plain t us
+plain-by t us false false false true x h y = y
+plain-by t us false false false false x h y = a-fault
 
 value-plain : (b : ℕ) (t : Token) (us : List Token) → eqb (symOf t) aName ≡ false → Plain (value both b (t ∷ us))
 unfolding value valueStep bracketed
-value-plain zero t us h = plain-by t us (eqb (symOf t) aName) (isLiteral (symOf t)) (eqb (symOf t) leftSquare || eqb (symOf t) leftRound) _ h a-fault
+value-plain zero t us h =
+    plain-by t us (eqb (symOf t) aName) (isLiteral (symOf t)) (eqb (symOf t) minus) (eqb (symOf t) leftSquare || eqb (symOf t) leftRound) _ h a-fault
 value-plain (suc b) t us h =
-    plain-by t us (eqb (symOf t) aName) (isLiteral (symOf t)) (eqb (symOf t) leftSquare || eqb (symOf t) leftRound) _ h
+    plain-by t us (eqb (symOf t) aName) (isLiteral (symOf t)) (eqb (symOf t) minus) (eqb (symOf t) leftSquare || eqb (symOf t) leftRound) _ h
     (cond-has (λ p. Plain p) (eqb (symOf t) leftSquare) (array-plain t (arrayItems (λ ws. value both b ws) us))
     (tuple-plain t (tupleItems (λ ws. value both b ws) us)))
 

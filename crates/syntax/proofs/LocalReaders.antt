@@ -11,14 +11,14 @@ use native.Mathlib.Omega.{arith}
 use lib.Dec.{eqb}
 use lib.ListN.{length}
 use Rattle.lexis.specs.Lexer.{Token}
-use Rattle.lexis.specs.Symbol.{symOf, isLiteral, leftRound, leftSquare, rightSquare, leftCurly, colon, equal, comma, semicolon, arrow, aName, aNumber, version}
-use Rattle.lexis.specs.Symbol.{graph, fragment}
-use Rattle.syntax.specs.Tree.{Value, Ty}
+use Rattle.lexis.specs.Symbol.{symOf, isLiteral, leftRound, leftSquare, rightSquare, leftCurly, colon, equal, comma, semicolon, arrow, aName, aNumber}
+use Rattle.lexis.specs.Symbol.{version, minus, graph, fragment}
+use Rattle.syntax.specs.Tree.{unsigned, negated, Value, Ty}
 use Rattle.syntax.specs.Tree.Value.{name, literal, array, tuple}
 use Rattle.syntax.specs.Tree.Ty.{arrayOf}
 use Rattle.syntax.specs.Tree.Arg.{positional}
 use Rattle.syntax.specs.Grammar.{Leaves, names, literals, both, takesNames, takesLiterals}
-use Rattle.syntax.specs.Parser.{Parse, Reader, then, expect, begins, rest, valueStep, arrayItems, tupleItems, bracketed, value, typeName, dims}
+use Rattle.syntax.specs.Parser.{Parse, Reader, then, expect, begins, rest, negative, valueStep, arrayItems, tupleItems, bracketed, value, typeName, dims}
 use Rattle.syntax.specs.Parser.{tupleTypes, named-type, baseStep, type, default, param, result, header, operations, labelled, argument, left, call}
 use Rattle.syntax.specs.Parser.{atEnd, document}
 use Rattle.syntax.specs.Parser.Parse.{ok, bad}
@@ -37,14 +37,19 @@ too-deep t ts = token-fixed (λ us. refl) (ten-local (t ∷ ts))
 
 -- ---- values
 
+negative-local : (t : Token) → Local (negative t)
+unfolding negative
+negative-local t = mapped-local (λ n. literal (negated t n)) (expect-local aNumber)
+
 value-step-local : (m : Leaves) (opened : Token → Reader Value) → LocalAfter opened → Local (valueStep m opened)
 unfolding valueStep
 value-step-local m opened h [] = end-fixed refl (nine-local [])
 value-step-local m opened h (t ∷ ts) =
     token-fixed (λ us. refl)
     (cond-fixed (takesNames m && eqb (symOf t) aName) (rest-fixed (t ∷ ts) (ok-local (name t) ts))
-    (cond-fixed (takesLiterals m && isLiteral (symOf t)) (rest-fixed (t ∷ ts) (ok-local (literal t) ts))
-    (cond-fixed (eqb (symOf t) leftSquare || eqb (symOf t) leftRound) (h t ts) (nine-local (t ∷ ts)))))
+    (cond-fixed (takesLiterals m && isLiteral (symOf t)) (rest-fixed (t ∷ ts) (ok-local (literal (unsigned t)) ts))
+    (cond-fixed (takesLiterals m && eqb (symOf t) minus) (rest-fixed (t ∷ ts) (negative-local t ts))
+    (cond-fixed (eqb (symOf t) leftSquare || eqb (symOf t) leftRound) (h t ts) (nine-local (t ∷ ts))))))
 
 module _ (val : Reader Value) (small : Shrinks val) (h : Local val) where
   array-local : Local (arrayItems val)
@@ -156,7 +161,7 @@ operations-local b (t ∷ ts) = token-fixed (λ us. refl) (row-local _ _ _ (head
 labelled-local : (v : Value) (e : Bool) (b : ℕ) → Local (labelled v e b)
 labelled-local (name t) true b = λ ts. rest-fixed ts (mapped-local _ (value-local both b) (rest ts))
 labelled-local (name t) false b = ok-local (positional (name t))
-labelled-local (literal t) e b = ok-local (positional (literal t))
+labelled-local (literal l) e b = ok-local (positional (literal l))
 labelled-local (array t vs) e b = ok-local (positional (array t vs))
 labelled-local (tuple t vs) e b = ok-local (positional (tuple t vs))
 

@@ -10,13 +10,13 @@ use native.Mathlib.Omega.{arith}
 use lib.Dec.{eqb}
 use lib.ListN.{length}
 use Rattle.lexis.specs.Lexer.{Token}
-use Rattle.lexis.specs.Symbol.{symOf, isLiteral, leftRound, leftSquare, rightSquare, colon, equal, comma, semicolon, arrow, aName, fragment}
+use Rattle.lexis.specs.Symbol.{symOf, isLiteral, leftRound, leftSquare, rightSquare, colon, equal, comma, semicolon, arrow, aName, fragment, minus, aNumber}
 use Rattle.syntax.specs.Tree.{Value, Ty}
 use Rattle.syntax.specs.Tree.Value.{name, literal, array, tuple}
 use Rattle.syntax.specs.Tree.Ty.{arrayOf}
 use Rattle.syntax.specs.Grammar.{Leaves, names, literals, both, takesNames, takesLiterals}
-use Rattle.syntax.specs.Parser.{Parse, Reader, expect, begins, rest, valueStep, arrayItems, tupleItems, bracketed, value, typeName, dims, tupleTypes}
-use Rattle.syntax.specs.Parser.{named-type, baseStep, type, default, param, result, header, labelled, argument, left, call}
+use Rattle.syntax.specs.Parser.{Parse, Reader, expect, begins, rest, negative, valueStep, arrayItems, tupleItems, bracketed, value, typeName, dims}
+use Rattle.syntax.specs.Parser.{tupleTypes, named-type, baseStep, type, default, param, result, header, labelled, argument, left, call}
 use Rattle.syntax.specs.Parser.Parse.{ok}
 use Rattle.syntax.proofs.Row.{cond-has, Left, Shrinks, then-left, mapped-left, left-le, row-shrinks}
 use Rattle.syntax.proofs.Row.Left.{fewer, fault}
@@ -50,13 +50,18 @@ expect-shrinks s (t ∷ ts) = cond-left (eqb (symOf t) s) (fewer (omega arith)) 
 
 -- ---- values
 
+negative-shrinks : (t : Token) → Shrinks (negative t)
+unfolding negative
+negative-shrinks t ts = mapped-left _ (expect-shrinks aNumber ts)
+
 value-step-shrinks : (m : Leaves) (opened : Token → Reader Value) → ((t : Token) → NoLonger (opened t)) → Shrinks (valueStep m opened)
 unfolding valueStep
 value-step-shrinks m opened h [] = fault
 value-step-shrinks m opened h (t ∷ ts) =
     cond-left (takesNames m && eqb (symOf t) aName) (fewer (omega arith))
     (cond-left (takesLiterals m && isLiteral (symOf t)) (fewer (omega arith))
-    (cond-left (eqb (symOf t) leftSquare || eqb (symOf t) leftRound) (h t ts) fault))
+    (cond-left (takesLiterals m && eqb (symOf t) minus) (keeps (negative-shrinks t ts))
+    (cond-left (eqb (symOf t) leftSquare || eqb (symOf t) leftRound) (h t ts) fault)))
 
 module _ (val : Reader Value) (h : Shrinks val) where
   array-shrinks : Shrinks (arrayItems val)
@@ -150,7 +155,7 @@ header-shrinks b ts =
 labelled-keeps : (v : Value) (e : Bool) (b : ℕ) → NoLonger (labelled v e b)
 labelled-keeps (name t) true b us = mapped-left _ (still (value-shrinks both b) (rest-lt us))
 labelled-keeps (name t) false b us = nothing-taken us
-labelled-keeps (literal t) e b us = nothing-taken us
+labelled-keeps (literal l) e b us = nothing-taken us
 labelled-keeps (array t vs) e b us = nothing-taken us
 labelled-keeps (tuple t vs) e b us = nothing-taken us
 

@@ -10,9 +10,9 @@ use native.Mathlib.Omega.{arith}
 use lib.Dec.{eqb}
 use borrow.Author.Tests.{eqb-true}
 use Rattle.lexis.specs.Lexer.{Token}
-use Rattle.lexis.specs.Symbol.{symOf, isLiteral, leftRound, rightRound, leftSquare, rightSquare, leftCurly, rightCurly, colon, equal, comma, semicolon, aName}
-use Rattle.lexis.specs.Symbol.{tensorWord, extentWord, scalarWord, logicalWord, stringWord}
-use Rattle.syntax.specs.Tree.{Value, Values, Ty, Header, Call, Document}
+use Rattle.lexis.specs.Symbol.{symOf, isLiteral, leftRound, rightRound, leftSquare, rightSquare, leftCurly, rightCurly, colon, equal, comma, semicolon}
+use Rattle.lexis.specs.Symbol.{aName, minus, tensorWord, extentWord, scalarWord, logicalWord, stringWord}
+use Rattle.syntax.specs.Tree.{unsigned, negated, Value, Values, Ty, Header, Call, Document}
 use Rattle.syntax.specs.Tree.Value.{name, literal, array, tuple}
 use Rattle.syntax.specs.Tree.Values.{none, more}
 use Rattle.syntax.specs.Tree.Ty.{scalar, arrayOf, tupleOf}
@@ -22,6 +22,7 @@ use Rattle.syntax.specs.Grammar.{Separated, Leaves, takesNames, takesLit
 use Rattle.syntax.specs.Grammar.{IsResult, IsHeader, IsList, IsName, IsArg, IsLeft, IsEnd, IsCall, IsBody, IsDocument}
 use Rattle.syntax.specs.Grammar.Separated.{last, next}
 use Rattle.syntax.specs.Grammar.Leaves.{names, literals, both}
+use Rattle.syntax.specs.Grammar.IsLiteral.{no-sign, a-sign}
 use Rattle.syntax.specs.Grammar.Spells.{a-name, a-literal, an-empty-array, an-array, a-tuple}
 use Rattle.syntax.specs.Grammar.Items.{last-item, next-item}
 use Rattle.syntax.specs.Grammar.IsTypeName.{is-tensor, is-extent, is-scalar, is-logical, is-string}
@@ -40,7 +41,7 @@ use Rattle.syntax.specs.Grammar.IsEnd.{no-semicolon, a-semicolon}
 use Rattle.syntax.specs.Grammar.IsCall.{a-call}
 use Rattle.syntax.specs.Grammar.IsBody.{last-call, next-call}
 use Rattle.syntax.specs.Grammar.IsDocument.{a-document}
-use Rattle.syntax.specs.Parser.{Parse, then, mapped, Reader, expect, begins, rest, plain, values, types, row, valueStep, arrayItems, tupleItems}
+use Rattle.syntax.specs.Parser.{Parse, then, mapped, Reader, expect, begins, rest, plain, values, types, row, negative, valueStep, arrayItems, tupleItems}
 use Rattle.syntax.specs.Parser.{bracketed, value, typeName, dims, tupleTypes, named-type, baseStep, type, default, param, result, header, operations}
 use Rattle.syntax.specs.Parser.{labelled, argument, left, call, atEnd, document}
 use Rattle.syntax.specs.Parser.Parse.{ok, bad}
@@ -105,8 +106,8 @@ a-leaf literals =
     record {
       tokens = number-token .token
           ∷ [];
-      tree = literal (number-token .token);
-      reaches = λ c ws k. a-literal {t = number-token .token} refl (rw (number-token .is));
+      tree = literal (unsigned (number-token .token));
+      reaches = λ c ws k. a-literal refl (no-sign {t = number-token .token} (rw (number-token .is)));
     }
 a-leaf both = record { tokens = name-token .token ∷ []; tree = name (name-token .token); reaches = λ c ws k. a-name refl (name-token .is) }
 
@@ -151,6 +152,11 @@ module _ (m : Leaves) {b : ℕ} {val : Reader Value} (s : Shrinks val) (h : Read
   bracketed-reads (square e) = rw (e, bracketed) (into InArray _ (array t) (array-reads e) (λ b us vs ws h. h))
   bracketed-reads (round e) = rw (e, bracketed) (into InTuple _ (tuple t) (tuple-reads e) (λ b us vs ws h. h))
 
+-- after the sign t
+negative-reads : (m : Leaves) {b : ℕ} (t : Token) → takesLiterals m ≡ true → symOf t ≡ minus → Reads (Past (Spells m) t) b (negative t)
+unfolding negative
+negative-reads m t p e = expects (Past (Spells m) t) number-token (λ n f. finish (literal (negated t n)) (λ b us. a-literal p (a-sign e f)))
+
 value-step-right : (m : Leaves) {b : ℕ} (k : Token → Reader Value) →
     ((t : Token) (us : List Token) → Opens t → Right (Spells m) b (t ∷ us) (k t us)) → (ts : List Token) → Right (Spells m) b ts (valueStep m k ts)
 unfolding valueStep
@@ -161,8 +167,11 @@ value-step-right m {b} k f (t ∷ us) =
     good (t ∷ []) refl (λ c ws k. a-name (p .0) (eqb-true _ _ (p .1)))) (λ _.
     choice (Right (Spells m) b (t ∷ us)) (takesLiterals m && isLiteral (symOf t)) (λ e.
     let p = both-true (takesLiterals m) (isLiteral (symOf t)) e in
-    good (t ∷ []) refl (λ c ws k. a-literal (p .0) (p .1))) (λ _.
-    choice (Right (Spells m) b (t ∷ us)) (eqb (symOf t) leftSquare || eqb (symOf t) leftRound) (λ e. f t us (opens t e)) (λ _. nine [] refl (a-leaf m))))
+    good (t ∷ []) refl (λ c ws k. a-literal (p .0) (no-sign (p .1)))) (λ _.
+    choice (Right (Spells m) b (t ∷ us)) (takesLiterals m && eqb (symOf t) minus) (λ e.
+    let p = both-true (takesLiterals m) (eqb (symOf t) minus) e in
+    shift (Spells m) t (negative-reads m t (p .0) (eqb-true _ _ (p .1)) .each us)) (λ _.
+    choice (Right (Spells m) b (t ∷ us)) (eqb (symOf t) leftSquare || eqb (symOf t) leftRound) (λ e. f t us (opens t e)) (λ _. nine [] refl (a-leaf m)))))
 
 pub value-reads : (m : Leaves) (b : ℕ) → Reads (Spells m) b (value m b)
 unfolding value
@@ -372,7 +381,7 @@ alone v = finish (positional v) (λ c us ts h. a-positional h)
 
 label-reads : (b : ℕ) (v : Value) → Reads (After (Spells both) IsArg v) b (λ us. labelled v (begins equal us) b us)
 label-reads b (name n) = record { each = label-right b n; some = alone (name n) .some }
-label-reads b (literal t) = alone (literal t)
+label-reads b (literal l) = alone (literal l)
 label-reads b (array t vs) = alone (array t vs)
 label-reads b (tuple t vs) = alone (tuple t vs)
 
@@ -400,7 +409,8 @@ spells-none h = go [] refl h
 
     go : {m : Leaves} {b : ℕ} {v : Value} {us : List Token} (ts : List Token) → ts ≡ [] → Spells m b ts v us → ⊥
     go ts e (a-name p q) = clash cc
-    go ts e (a-literal p q) = clash cc
+    go ts e (a-literal p (no-sign q)) = clash cc
+    go ts e (a-literal p (a-sign q r)) = clash cc
     go ts e (an-empty-array p q) = clash cc
     go ts e (an-array p q) = clash cc
     go ts e (a-tuple p q r s) = clash cc

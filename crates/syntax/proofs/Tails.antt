@@ -8,13 +8,14 @@ use lib.Dec.{eqb}
 use lib.ListN.{length}
 use Rattle.lexis.specs.Sizes.{maxBrackets}
 use Rattle.lexis.specs.Lexer.{Token}
-use Rattle.lexis.specs.Symbol.{symOf, isLiteral, leftRound, leftSquare, rightSquare, colon, equal, comma, semicolon, leftCurly, arrow, aName, aNumber, version}
-use Rattle.lexis.specs.Symbol.{graph, fragment}
+use Rattle.lexis.specs.Symbol.{symOf, isLiteral, leftRound, leftSquare, rightSquare, colon, equal, comma, semicolon, leftCurly, arrow, aName, aNumber}
+use Rattle.lexis.specs.Symbol.{version, minus, graph, fragment}
 use Rattle.syntax.specs.Tree.{Value, Ty}
 use Rattle.syntax.specs.Tree.Value.{name, literal, array, tuple}
 use Rattle.syntax.specs.Tree.Ty.{arrayOf}
 use Rattle.syntax.specs.Grammar.{Leaves, names, literals, both, takesNames, takesLiterals}
-use Rattle.syntax.specs.Parser.{Parse, Reader, Row, Follow, Lists, then, mapped, expect, begins, rest, follow, onward, rowF, row, valueStep, arrayItems}
+use Rattle.syntax.specs.Parser.{Parse, Reader, Row, Follow, Lists, then, mapped, expect, begins, rest, follow, onward, rowF, row, negative}
+use Rattle.syntax.specs.Parser.{valueStep, arrayItems}
 use Rattle.syntax.specs.Parser.{tupleItems, bracketed, value, typeName, dims, tupleTypes, named-type, baseStep, type, default, param, result, header}
 use Rattle.syntax.specs.Parser.{labelled, argument, left, call, operations, atEnd, document, parseList, parseDocument}
 use Rattle.syntax.specs.Parser.Parse.{ok, bad}
@@ -107,13 +108,18 @@ module _ {A L : Type 0} (l : Lists A L) (r : Row) (item : Reader A) (h : Tails i
 
 -- ---- values
 
+negative-tails : (t : Token) → Tails (negative t)
+unfolding negative
+negative-tails t ts = mapped-takes _ (expect-tails aNumber ts)
+
 value-step-tails : (m : Leaves) (opened : Token → Reader Value) → ((t : Token) (us : List Token) → Takes (t ∷ us) (opened t us)) → Tails (valueStep m opened)
 unfolding valueStep
 value-step-tails m opened h [] = fault all
 value-step-tails m opened h (t ∷ ts) =
     cond-takes (takesNames m && eqb (symOf t) aName) (took (past all))
     (cond-takes (takesLiterals m && isLiteral (symOf t)) (took (past all))
-    (cond-takes (eqb (symOf t) leftSquare || eqb (symOf t) leftRound) (h t ts) (fault all)))
+    (cond-takes (takesLiterals m && eqb (symOf t) minus) (further (past all) (negative-tails t ts))
+    (cond-takes (eqb (symOf t) leftSquare || eqb (symOf t) leftRound) (h t ts) (fault all))))
 
 module _ (val : Reader Value) (h : Tails val) where
   pub array-tails : Tails (arrayItems val)
@@ -212,7 +218,7 @@ header-tails b ts =
 labelled-tails : (v : Value) (e : Bool) (b : ℕ) → Tails (labelled v e b)
 labelled-tails (name t) true b us = mapped-takes _ (further (past-rest us all) (value-tails both b (rest us)))
 labelled-tails (name t) false b us = took all
-labelled-tails (literal t) e b us = took all
+labelled-tails (literal l) e b us = took all
 labelled-tails (array t vs) e b us = took all
 labelled-tails (tuple t vs) e b us = took all
 

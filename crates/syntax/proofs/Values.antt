@@ -10,15 +10,15 @@ use borrow.Author.Tests.{eq-eqb, ne-eqb}
 use Rattle.lexis.specs.Lexer.{Token}
 use Rattle.syntax.specs.declared.Parsed.{Parsed}
 use Rattle.syntax.specs.declared.Parsed.the-variants.{Done, Fault}
-use Rattle.lexis.specs.Symbol.{symOf, isLiteral, rightRound, leftSquare, rightSquare, comma, aName, aNumber, aLiteral}
-use Rattle.syntax.specs.Tree.{Value}
+use Rattle.lexis.specs.Symbol.{symOf, isLiteral, rightRound, leftSquare, rightSquare, comma, minus, aName, aNumber, aLiteral}
+use Rattle.syntax.specs.Tree.{unsigned, negated, Value}
 use Rattle.syntax.specs.Tree.Value.{name, literal, array, tuple}
 use Rattle.syntax.specs.Tree.Values.{none, more}
 use Rattle.syntax.specs.Grammar.{Leaves, names, literals, both, takesNames, takesLiterals}
-use Rattle.syntax.specs.Parser.{Parse, Reader, expect, rest, row, values, commas, valueStep, arrayItems, tupleItems, bracketed, value}
+use Rattle.syntax.specs.Parser.{Parse, Reader, expect, rest, row, values, commas, negative, valueStep, arrayItems, tupleItems, bracketed, value}
 use Rattle.syntax.specs.Parser.Parse.{ok, bad}
 use Rattle.syntax.specs.Table.{toks, placeOf, parsed}
-use Rattle.syntax.specs.Inner.{theEnd, lookahead, onwards, isLeaf, opens}
+use Rattle.syntax.specs.Inner.{theEnd, lookahead, onwards, isLeaf, afterSign, opens}
 use Rattle.syntax.proofs.Shrinks.{value-shrinks}
 use Rattle.syntax.proofs.Tails.{expect-tails, value-tails}
 use Rattle.syntax.proofs.Table.{toks-rest}
@@ -65,7 +65,7 @@ no-leaf both = refl
 
 module _ (e n : ℕ) where
   leaf-by : (t : Token) (us : List Token) (p q : Bool) (z : Parse Value) → (p || q) ≡ true
-      → parsed e n (cond p (ok (name t) us) (cond q (ok (literal t) us) z)) ≡ Done (n - length us)
+      → parsed e n (cond p (ok (name t) us) (cond q (ok (literal (unsigned t)) us) z)) ≡ Done (n - length us)
   leaf-by t us true q z h = refl
   leaf-by t us false true z h = refl
   leaf-by t us false false z h = clash h
@@ -76,18 +76,47 @@ module _ (e n : ℕ) where
   step-leaf m opened [] h = clash (sym (no-leaf m) ∙ h)
   step-leaf m opened (t ∷ us) h = leaf-by t us (takesNames m && eqb (symOf t) aName) (takesLiterals m && isLiteral (symOf t)) _ h
 
-open-by : (t : Token) (us : List Token) (p q r : Bool) (y z : Parse Value) → (p || q) ≡ false
-    → cond p (ok (name t) us) (cond q (ok (literal t) us) (cond r y z)) ≡ cond r y z
-open-by t us true q r y z h = clash (sym h)
-open-by t us false true r y z h = clash (sym h)
-open-by t us false false r y z h = refl
+open-by : (t : Token) (us : List Token) (p q s r : Bool) (x y z : Parse Value) → (p || q) ≡ false → s ≡ false → r ≡ true
+    → cond p (ok (name t) us) (cond q (ok (literal (unsigned t)) us) (cond s x (cond r y z))) ≡ y
+open-by t us true q s r x y z h k l = clash (sym h)
+open-by t us false true s r x y z h k l = clash (sym h)
+open-by t us false false true r x y z h k l = clash (sym k)
+open-by t us false false false true x y z h k l = refl
+open-by t us false false false false x y z h k l = clash l
 
-step-other : (m : Leaves) (opened : Token → Reader Value) (ts : List Token) → isLeaf m (lookahead ts) ≡ false
-    → valueStep m opened ts ≡ cond (opens (lookahead ts)) (begun opened ts) (bad 9 ts)
+sign-not : (m : Leaves) (s : ℕ) → (s ≡ minus → ⊥) → (takesLiterals m && eqb s minus) ≡ false
+sign-not names s h = refl
+sign-not literals s h = ne-eqb s minus h
+sign-not both s h = ne-eqb s minus h
+
+-- a bracket
+step-open : (m : Leaves) (opened : Token → Reader Value) (ts : List Token) → isLeaf m (lookahead ts) ≡ false → opens (lookahead ts) ≡ true
+    → valueStep m opened ts ≡ begun opened ts
 unfolding valueStep isLeaf
-step-other m opened [] h = refl
-step-other m opened (t ∷ us) h =
-    open-by t us (takesNames m && eqb (symOf t) aName) (takesLiterals m && isLiteral (symOf t)) (opens (symOf t)) (opened t us) (bad 9 (t ∷ us)) h
+step-open m opened [] h o = clash o
+step-open m opened (t ∷ us) h o =
+    open-by t us (takesNames m && eqb (symOf t) aName) (takesLiterals m && isLiteral (symOf t)) (takesLiterals m && eqb (symOf t) minus) (opens (symOf t))
+    (negative t us) (opened t us) (bad 9 (t ∷ us)) h (sign-not m (symOf t) (λ z. clash (sym (ap opens z) ∙ o))) o
+
+-- neither a leaf nor a bracket: a sign and a number, where literals may stand
+module _ (e n : ℕ) where
+  other-by : (t : Token) (us : List Token) (p q s r : Bool) (y : Parse Value) → (p || q) ≡ false → r ≡ false
+      → parsed e n (cond p (ok (name t) us) (cond q (ok (literal (unsigned t)) us) (cond s (negative t us) (cond r y (bad 9 (t ∷ us))))))
+      ≡ parsed e n (cond s (expect aNumber us) (bad 9 (t ∷ us)))
+  unfolding negative
+  other-by t us true q s r y h k = clash (sym h)
+  other-by t us false true s r y h k = clash (sym h)
+  other-by t us false false true r y h k = mapped-same e n (λ x. literal (negated t x)) (expect aNumber us)
+  other-by t us false false false true y h k = clash (sym k)
+  other-by t us false false false false y h k = refl
+
+  step-other : (m : Leaves) (opened : Token → Reader Value) (ts : List Token) → isLeaf m (lookahead ts) ≡ false → opens (lookahead ts) ≡ false
+      → parsed e n (valueStep m opened ts) ≡ parsed e n (afterSign m ts)
+  unfolding valueStep isLeaf
+  step-other m opened [] h o = rw (sign-not m theEnd (λ z. omega arith))
+  step-other m opened (t ∷ us) h o =
+      other-by t us (takesNames m && eqb (symOf t) aName) (takesLiterals m && isLiteral (symOf t)) (takesLiterals m && eqb (symOf t) minus) (opens (symOf t))
+      (opened t us) h o
 
 pub value-leaf : (m : Leaves) (e n b : ℕ) (ts : List Token) → isLeaf m (lookahead ts) ≡ true → parsed e n (value m b ts) ≡ Done (n - length (rest ts))
 unfolding value
@@ -95,15 +124,15 @@ value-leaf m e n zero ts h = step-leaf e n m _ ts h
 value-leaf m e n (suc b) ts h = step-leaf e n m _ ts h
 
 module _ (m : Leaves) (e n : ℕ) (ts : List Token) (h : isLeaf m (lookahead ts) ≡ false) where
-  pub value-not : (b : ℕ) → opens (lookahead ts) ≡ false → parsed e n (value m b ts) ≡ Fault 9 (placeOf e ts)
+  pub value-other : (b : ℕ) → opens (lookahead ts) ≡ false → parsed e n (value m b ts) ≡ parsed e n (afterSign m ts)
   unfolding value
-  value-not zero o = rw (step-other m _ ts h, o)
-  value-not (suc b) o = rw (step-other m _ ts h, o)
+  value-other zero o = step-other e n m _ ts h o
+  value-other (suc b) o = step-other e n m _ ts h o
 
   module _ (o : opens (lookahead ts) ≡ true) where
     value-deep : parsed e n (value m 0 ts) ≡ Fault 10 (placeOf e ts)
     unfolding value
-    value-deep = rw (step-other m _ ts h, o) (deep ts o)
+    value-deep = rw (step-open m _ ts h o) (deep ts o)
       where
         deep : (us : List Token) → opens (lookahead us) ≡ true → parsed {A = Value} e n (begun (λ t us. bad 10 (t ∷ us)) us) ≡ Fault 10 (placeOf e us)
         deep [] o = clash o
@@ -116,7 +145,7 @@ module _ (m : Leaves) (e n : ℕ) (ts : List Token) (h : isLeaf m (lookahead ts)
     module _ (b : ℕ) (room : b ≡ 0 → ⊥) where
       inside : parsed e n (value m b ts) ≡ parsed e n (begun (bracketed (λ ws. value m (b - 1) ws)) ts)
       unfolding value
-      inside = let q : b ≡ suc (b - 1) = omega arith in ap (λ (k : ℕ). parsed e n (value m k ts)) q ∙ rw (step-other m _ ts h, o)
+      inside = let q : b ≡ suc (b - 1) = omega arith in ap (λ (k : ℕ). parsed e n (value m k ts)) q ∙ rw (step-open m _ ts h o)
 
       pub value-array : lookahead ts ≡ leftSquare → parsed e n (value m b ts) ≡ parsed e n (arrayItems (value m (b - 1)) (rest ts))
       unfolding bracketed
@@ -124,7 +153,7 @@ module _ (m : Leaves) (e n : ℕ) (ts : List Token) (h : isLeaf m (lookahead ts)
         where
           go : (us : List Token) → lookahead us ≡ leftSquare
               → parsed e n (begun (bracketed (λ ws. value m (b - 1) ws)) us) ≡ parsed e n (arrayItems (value m (b - 1)) (rest us))
-          go [] s = let x : _≡_ {A = ℕ} 267 91 = s in absurd (omega arith)
+          go [] s = let x : _≡_ {A = ℕ} 268 91 = s in absurd (omega arith)
           go (t ∷ us) s = simp (eq-eqb (symOf t) leftSquare s) (mapped-same e n (array t) (arrayItems (value m (b - 1)) us))
 
       pub value-tuple : (lookahead ts ≡ leftSquare → ⊥) → parsed e n (value m b ts) ≡ parsed e n (tupleItems (value m (b - 1)) (rest ts))
@@ -180,8 +209,8 @@ module _ (text table : List ℕ) (e n i : ℕ) {s : ℕ} (sees : s ≡ lookahead
       seen : isLeaf m (lookahead (toks text table n i)) ≡ false
       seen = ap (isLeaf m) (sym sees) ∙ leaf
 
-      pub at-not : {r : Parsed} → opens s ≡ false → r ≡ Fault 9 (placeOf e (toks text table n i)) → r ≡ parsed e n (value m b (toks text table n i))
-      at-not o p = p ∙ sym (value-not m e n _ seen b (ap opens (sym sees) ∙ o))
+      pub at-other : {r : Parsed} → opens s ≡ false → r ≡ parsed e n (afterSign m (toks text table n i)) → r ≡ parsed e n (value m b (toks text table n i))
+      at-other o p = p ∙ sym (value-other m e n _ seen b (ap opens (sym sees) ∙ o))
 
       module _ (o : opens s ≡ true) where
         pub at-full : {r : Parsed} → b ≡ 0 → r ≡ Fault 10 (placeOf e (toks text table n i)) → r ≡ parsed e n (value m b (toks text table n i))
@@ -202,9 +231,26 @@ module _ (text table : List ℕ) (e n i : ℕ) {s : ℕ} (sees : s ≡ lookahead
   pub open-stands : opens s ≡ true → i < n
   open-stands h = stands-by text table n i opens refl sees h
 
--- no items stand at the end
-pub items-none : (text table : List ℕ) (n i : ℕ) → n ≤ i → (m : Leaves) (b close : ℕ) {r : Parsed} → r ≡ Fault 9 (placeOf (length text) (toks text table n i))
-    → r ≡ parsed (length text) n (row values (commas close) (value m b) (toks text table n i))
-items-none text table n i h m b close p =
-    row-fell values close (value-sound m b) (length text) n text table i
-    (at-not text table (length text) n i (look-none text table n i h) m b (no-leaf m) refl p) p
+  -- what begins with no sign; where literals may not stand; a sign, and what is asked of the token after it
+  module _ (m : Leaves) {r : Parsed} where
+    pub at-no-sign : (s ≡ minus → ⊥) → r ≡ Fault 9 (placeOf e (toks text table n i)) → r ≡ parsed e n (afterSign m (toks text table n i))
+    at-no-sign h p = rw (sign-not m (lookahead (toks text table n i)) (λ z. h (sees ∙ z))) p
+
+    pub at-lost-sign : takesLiterals m ≡ false → r ≡ Fault 9 (placeOf e (toks text table n i)) → r ≡ parsed e n (afterSign m (toks text table n i))
+    at-lost-sign t p = rw t p
+
+    pub at-sign : s ≡ minus → takesLiterals m ≡ true → r ≡ parsed e n (expect aNumber (toks text table n (i + 1)))
+        → r ≡ parsed e n (afterSign m (toks text table n i))
+    at-sign h t p =
+        rw (t, eq-eqb (lookahead (toks text table n i)) minus (sym sees ∙ h))
+        (p ∙ ap (λ (ts : List Token). parsed e n (expect aNumber ts)) (sym (toks-rest text table n i)))
+
+-- no value stands at the end, and no items
+module _ (text table : List ℕ) (n i : ℕ) (h : n ≤ i) (m : Leaves) (b : ℕ) {r : Parsed} (p : r ≡ Fault 9 (placeOf (length text) (toks text table n i))) where
+  pub value-none : r ≡ parsed (length text) n (value m b (toks text table n i))
+  value-none =
+      let none = look-none text table n i h in
+      at-other text table (length text) n i none m b (no-leaf m) refl (at-no-sign text table (length text) n i none m (λ z. omega arith) p)
+
+  pub items-none : (close : ℕ) → r ≡ parsed (length text) n (row values (commas close) (value m b) (toks text table n i))
+  items-none close = row-fell values close (value-sound m b) (length text) n text table i value-none p

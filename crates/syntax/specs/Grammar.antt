@@ -9,9 +9,9 @@ use mathlib.Core.Option.{Option, some}
 use mathlib.Core.Option.{none as nothing}
 use Prim.Native.Nat.{ℕ, suc}
 use Rattle.lexis.specs.Lexer.{Token}
-use Rattle.lexis.specs.Symbol.{symOf, isLiteral, leftRound, rightRound, leftSquare, rightSquare, leftCurly, rightCurly, colon, equal, comma, semicolon, arrow}
-use Rattle.lexis.specs.Symbol.{aName, aNumber, version, graph, fragment, tensorWord, extentWord, scalarWord, logicalWord, stringWord}
-use Rattle.syntax.specs.Tree.{Value, Values, Ty, Tys, Param, Result, Header, Arg, Call, Document}
+use Rattle.lexis.specs.Symbol.{symOf, isLiteral, leftRound, rightRound, leftSquare, rightSquare, leftCurly, rightCurly, colon, equal, comma, semicolon}
+use Rattle.lexis.specs.Symbol.{arrow, minus, aName, aNumber, version, graph, fragment, tensorWord, extentWord, scalarWord, logicalWord, stringWord}
+use Rattle.syntax.specs.Tree.{Literal, unsigned, negated, Value, Values, Ty, Tys, Param, Result, Header, Arg, Call, Document}
 use Rattle.syntax.specs.Tree.Value.{name, literal, array, tuple}
 use Rattle.syntax.specs.Tree.Values.{none, more}
 use Rattle.syntax.specs.Tree.Ty.{tensor, extent, scalar, logical, string, arrayOf, tupleOf}
@@ -25,6 +25,13 @@ pub data Separated {A : Type 0} (Item : List Token → A → List Token → Type
   last : {c : Token} {ts us : List Token} {a : A} → Item ts a (c ∷ us) → symOf c ≡ close → Separated Item close ts (a ∷ []) us
   next : {c : Token} {ts us ws : List Token} {a : A} {xs : List A} → Item ts a (c ∷ us) → symOf c ≡ comma → Separated Item close us xs ws
       → Separated Item close ts (a ∷ xs) ws
+
+-- ---- literals
+
+-- <literal>: a string, a truth value, a number, or "-" and a number
+pub data IsLiteral : List Token → Literal → List Token → Type 0 where
+  no-sign : {t : Token} {ts : List Token} → isLiteral (symOf t) ≡ true → IsLiteral (t ∷ ts) (unsigned t) ts
+  a-sign : {s t : Token} {ts : List Token} → symOf s ≡ minus → symOf t ≡ aNumber → IsLiteral (s ∷ t ∷ ts) (negated s t) ts
 
 -- ---- values
 
@@ -48,7 +55,7 @@ takesLiterals both = true
 mutual
   pub data Spells (m : Leaves) : ℕ → List Token → Value → List Token → Type 0 where
     a-name : {b : ℕ} {t : Token} {ts : List Token} → takesNames m ≡ true → symOf t ≡ aName → Spells m b (t ∷ ts) (name t) ts
-    a-literal : {b : ℕ} {t : Token} {ts : List Token} → takesLiterals m ≡ true → isLiteral (symOf t) ≡ true → Spells m b (t ∷ ts) (literal t) ts
+    a-literal : {b : ℕ} {ts us : List Token} {l : Literal} → takesLiterals m ≡ true → IsLiteral ts l us → Spells m b ts (literal l) us
     an-empty-array : {b : ℕ} {o c : Token} {ts : List Token} → symOf o ≡ leftSquare → symOf c ≡ rightSquare → Spells m (suc b) (o ∷ c ∷ ts) (array o none) ts
     an-array : {b : ℕ} {o : Token} {ts us : List Token} {vs : Values} → symOf o ≡ leftSquare → Items m rightSquare b ts vs us
         → Spells m (suc b) (o ∷ ts) (array o vs) us

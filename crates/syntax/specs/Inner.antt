@@ -6,8 +6,8 @@ use lib.Dec.{eqb, leb}
 use lib.ListN.{length}
 use Rattle.lexis.specs.Sizes.{maxBrackets}
 use Rattle.lexis.specs.Lexer.{Token}
-use Rattle.lexis.specs.Symbol.{symOf, isLiteral, leftRound, rightRound, leftSquare, leftCurly, rightCurly, equal, semicolon, arrow, aName, aNumber, version}
-use Rattle.lexis.specs.Symbol.{graph, tensorWord, extentWord, scalarWord, logicalWord, stringWord}
+use Rattle.lexis.specs.Symbol.{symOf, isLiteral, leftRound, rightRound, leftSquare, leftCurly, rightCurly, equal, semicolon, arrow, minus, aName}
+use Rattle.lexis.specs.Symbol.{aNumber, version, graph, tensorWord, extentWord, scalarWord, logicalWord, stringWord}
 use Rattle.syntax.specs.Code as Code
 use Rattle.syntax.specs.Tree.{Ty, Param, Result, Arg, Call}
 use Rattle.syntax.specs.Grammar.{Leaves, names, literals, both, takesNames, takesLiterals}
@@ -25,7 +25,7 @@ use Rattle.syntax.specs.declared.list.Item.the-variants as W
 
 -- the number that stands for no token
 abbrev pub theEnd : ℕ
-theEnd = 267
+theEnd = 268
 
 -- the terminal of the first token, or that of no token
 abbrev pub lookahead : List Token → ℕ
@@ -60,6 +60,10 @@ leavesOf Both = both
 -- the terminal s is a leaf of such a value
 unfoldable pub isLeaf : Leaves → ℕ → Bool
 isLeaf m s = takesNames m && eqb s aName || takesLiterals m && isLiteral s
+
+-- a number after a sign, where literals may stand; what begins with no sign is a fault
+abbrev pub afterSign : Leaves → Reader Token
+afterSign m ts = cond (takesLiterals m && eqb (lookahead ts) minus) (expect aNumber (rest ts)) (bad Code.syntax ts)
 
 -- the terminal s opens an array or a tuple
 abbrev pub opens : ℕ → Bool

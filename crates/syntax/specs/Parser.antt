@@ -10,9 +10,9 @@ use lib.ListN.{length}
 use Rattle.lexis.specs.Sizes.{maxBrackets}
 use Rattle.lexis.specs.Lexer.{Token}
 use Rattle.syntax.specs.Code as Code
-use Rattle.lexis.specs.Symbol.{symOf, isLiteral, leftRound, rightRound, leftSquare, rightSquare, leftCurly, rightCurly, colon, equal, comma, semicolon, arrow}
-use Rattle.lexis.specs.Symbol.{aName, aNumber, version, graph, fragment, tensorWord, extentWord, scalarWord, logicalWord, stringWord}
-use Rattle.syntax.specs.Tree.{Value, Values, Ty, Tys, Param, Result, Header, Arg, Call, Document}
+use Rattle.lexis.specs.Symbol.{symOf, isLiteral, leftRound, rightRound, leftSquare, rightSquare, leftCurly, rightCurly, colon, equal, comma, semicolon}
+use Rattle.lexis.specs.Symbol.{arrow, minus, aName, aNumber, version, graph, fragment, tensorWord, extentWord, scalarWord, logicalWord, stringWord}
+use Rattle.syntax.specs.Tree.{unsigned, negated, Value, Values, Ty, Tys, Param, Result, Header, Arg, Call, Document}
 use Rattle.syntax.specs.Tree.Value.{name, literal, array, tuple}
 use Rattle.syntax.specs.Tree.Values.{none, more}
 use Rattle.syntax.specs.Tree.Ty.{tensor, extent, scalar, logical, string, arrayOf, tupleOf}
@@ -113,13 +113,18 @@ row l r item ts = rowF (suc (length ts)) l r item ts
 
 -- ---- values
 
+-- a negative number, after its sign t
+unfoldable pub negative : Token → Reader Value
+negative t ts = mapped (λ n. literal (negated t n)) (expect aNumber ts)
+
 -- a value by its first token; `opened` is what follows an opening bracket
 unfoldable pub valueStep : Leaves → (Token → Reader Value) → Reader Value
 valueStep m opened [] = bad Code.syntax []
 valueStep m opened (t ∷ ts) =
     cond (takesNames m && eqb (symOf t) aName) (ok (name t) ts)
-    (cond (takesLiterals m && isLiteral (symOf t)) (ok (literal t) ts)
-    (cond (eqb (symOf t) leftSquare || eqb (symOf t) leftRound) (opened t ts) (bad Code.syntax (t ∷ ts))))
+    (cond (takesLiterals m && isLiteral (symOf t)) (ok (literal (unsigned t)) ts)
+    (cond (takesLiterals m && eqb (symOf t) minus) (negative t ts)
+    (cond (eqb (symOf t) leftSquare || eqb (symOf t) leftRound) (opened t ts) (bad Code.syntax (t ∷ ts)))))
 
 -- the items of an array after its bracket: none, or a row
 unfoldable pub arrayItems : Reader Value → Reader Values
@@ -220,7 +225,7 @@ operations b (t ∷ ts) = row plain to-the-end (header b) (t ∷ ts)
 abbrev pub labelled : Value → Bool → ℕ → Reader Arg
 labelled (name t) true b us = mapped (named t) (value both b (rest us))
 labelled (name t) false b us = ok (positional (name t)) us
-labelled (literal t) e b us = ok (positional (literal t)) us
+labelled (literal l) e b us = ok (positional (literal l)) us
 labelled (array t vs) e b us = ok (positional (array t vs)) us
 labelled (tuple t vs) e b us = ok (positional (tuple t vs)) us
 

@@ -1,7 +1,24 @@
 -- The trees of the flat syntax. They hold tokens, so that a rule can say where it is broken.
+use mathlib.Core.Bool.{Bool, true, false}
 use mathlib.Core.List.{List}
 use mathlib.Core.Option.{Option}
 use Rattle.lexis.specs.Lexer.{Token}
+
+-- ---- literals
+
+-- A literal: its first token, whether that is the sign of a negative number, and the token of the number, the string or the truth value.
+pub record Literal : Type 0 where
+  pub first : Token
+  pub negative : Bool
+  pub token : Token
+
+-- without a sign a literal is one token
+abbrev pub unsigned : Token → Literal
+unsigned t = record { first = t; negative = false; token = t }
+
+-- a sign and a number
+abbrev pub negated : Token → Token → Literal
+negated s t = record { first = s; negative = true; token = t }
 
 -- ---- values, left sides, defaults
 
@@ -10,7 +27,7 @@ use Rattle.lexis.specs.Lexer.{Token}
 mutual
   pub data Value : Type 0 where
     name : Token → Value
-    literal : Token → Value
+    literal : Literal → Value
     array : Token → Values → Value
     tuple : Token → Values → Value
 

@@ -12,7 +12,7 @@ ghost use Rattle.syntax.specs.Grammar.{takesNames, takesLiterals};
 ghost use Rattle.syntax.specs.declared.Parsed.the-variants.{Fault};
 ghost use Rattle.syntax.specs.Parser.{expect, value, values, commas, arrayItems, tupleItems, row};
 ghost use Rattle.syntax.specs.Table.{toks, Holds, placeOf, parsed};
-ghost use Rattle.syntax.specs.Inner.{theEnd, lookahead, onwards, leavesOf, isLeaf, opens, reached};
+ghost use Rattle.syntax.specs.Inner.{theEnd, lookahead, onwards, leavesOf, isLeaf, afterSign, opens, reached};
 
 // What a value's leaves may be: names on a left side, literals in a default, both in an argument.
 pub enum Leaves {
@@ -127,6 +127,30 @@ fn then_to(text: &[u8], table: &[u32], n: usize, first: usize, s: u32) -> usize
     expect_to(text, table, n, first, symbol_at(text, table, n, first), s)
 }
 
+// What begins at place `at`, where s stands, with neither a leaf nor a bracket: a sign and the number after it, where literals may stand; else a fault.
+fn negative(text: &[u8], table: &[u32], n: usize, at: usize, s: u32, leaves: Leaves) -> usize
+    requires { ⌜ Holds (now text) (now table) n ⌝ }
+    requires { ⌜ (at ≤ n) × (s ≡ lookahead (toks (now text) (now table) n at)) ⌝ }
+    ensures { λ r. ⌜ reached (now (text .entry)) (now (table .entry)) n r ≡ parsed (length (now (text .entry))) n
+        (afterSign (leavesOf leaves) (toks (now (text .entry)) (now (table .entry)) n at)) ⌝ }
+{
+    if s != Symbol::MINUS {
+        return syntax_at(text, table, n, at);
+    }
+    if !takes_literals(leaves) {
+        return syntax_at(text, table, n, at);
+    }
+    let next = at + 1;
+    expect_to(
+        text,
+        table,
+        n,
+        next,
+        symbol_at(text, table, n, next),
+        Symbol::NUMBER,
+    )
+}
+
 // A value where s stands, in which `room` brackets may be opened inside one another.
 fn value_to(
     text: &[u8],
@@ -146,7 +170,7 @@ fn value_to(
         return at + 1;
     }
     if !opens_value(s) {
-        return syntax_at(text, table, n, at);
+        return negative(text, table, n, at, s, leaves);
     }
     if room == 0 {
         return bracket_at(text, table, n, at);
@@ -228,7 +252,7 @@ pub fn value(text: &[u8], table: &[u32], n: usize, at: usize, leaves: Leaves, ro
     if is_leaf(leaves, s) {
         return Parsed::Done(at + 1);
     }
-    if !opens_value(s) {
+    if n <= at {
         return fault_at(text, table, n, at, Parsed::SYNTAX);
     }
     parsed_of(

@@ -9,7 +9,7 @@ use mathlib.Core.Option.{some}
 use Prim.Native.Nat.{ℕ, suc, _≤_, _<_, _%_}
 use lib.IntN.{ℤ, pos}
 use lib.ListN.{length, getD}
-use Rattle.lexis.specs.Sizes.{maxName, maxString, maxBrackets, maxExtent}
+use Rattle.lexis.specs.Sizes.{maxName, maxString, maxBrackets}
 use Rattle.lexis.specs.Class as Class
 use Rattle.lexis.specs.Kind as Kind
 use Rattle.lexis.specs.Bytes.{classOf, isNamePart, isContent}
@@ -23,11 +23,11 @@ use Rattle.syntax.specs.Grammar.{Leaves, names, both, takesNames, takesLiterals
 use Rattle.lists.specs.Names.{repeats}
 use Rattle.lists.specs.ListRules.{paramNames}
 use Rattle.lists.specs.Found.{find}
-use Rattle.lists.specs.Reading.{Val, Vals, vName, vNumber, vExtent, vString, vLogical, vArray, vTuple, no-val, a-val, resultType}
+use Rattle.lists.specs.Reading.{SignedNumber, isExtent, Val, Vals, vName, vNumber, vExtent, vString, vLogical, vArray, vTuple, no-val, a-val, resultType}
 use Rattle.writing.specs.Plan.{Plan, PlanCall}
 use Rattle.writing.specs.Spelling.{quoteFor}
 use Rattle.writing.specs.Pieces.{Piece}
-use Rattle.writing.specs.Layout.{pieces, leftPieces}
+use Rattle.writing.specs.Layout.{unsignedOf, pieces, leftPieces}
 
 -- ---- leaves
 
@@ -66,9 +66,9 @@ pub record IsText (s : List ℕ) : Type 0 where
 mutual
   pub data Fits (m : Leaves) : ℕ → Ty → Val → Type 0 where
     fit-name : {b : ℕ} {w : List ℕ} → takesNames m ≡ true → IsName w → Fits m b tensor (vName w)
-    fit-number : {b : ℕ} {n : Reduced} → takesLiterals m ≡ true → IsNumber n → Fits m b tensor (vNumber n)
-    fit-scalar : {b : ℕ} {n : Reduced} → takesLiterals m ≡ true → IsNumber n → Fits m b scalar (vNumber n)
-    fit-extent : {b n : ℕ} → takesLiterals m ≡ true → n ≤ maxExtent → Fits m b extent (vExtent n)
+    fit-number : {b : ℕ} {n : SignedNumber} → takesLiterals m ≡ true → IsNumber (unsignedOf n) → Fits m b tensor (vNumber n)
+    fit-scalar : {b : ℕ} {n : SignedNumber} → takesLiterals m ≡ true → IsNumber (unsignedOf n) → Fits m b scalar (vNumber n)
+    fit-extent : {b : ℕ} {z : ℤ} → takesLiterals m ≡ true → isExtent z ≡ true → Fits m b extent (vExtent z)
     fit-string : {b : ℕ} {s : List ℕ} → takesLiterals m ≡ true → IsText s → Fits m b string (vString s)
     fit-logical : {b : ℕ} {x : Bool} → takesLiterals m ≡ true → Fits m b logical (vLogical x)
     fit-truth : {b : ℕ} {x : Bool} → takesLiterals m ≡ true → Fits m b tensor (vLogical x)

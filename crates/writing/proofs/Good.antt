@@ -21,7 +21,7 @@ use Rattle.lexis.specs.Lexeme.{numberLexeme, wordLexeme, stringLexeme, isPair, 
 use Rattle.lexis.specs.Lexer.{Token, Lexed, accepted, refused, prepend, admit, lexFrom, lex}
 use Rattle.lexis.specs.declared.token.Lexeme.{Lexeme}
 use Rattle.lexis.specs.declared.token.Lexeme.the-variants as L
-use Rattle.lexis.specs.Symbol.{symOf, symbolOf, aName}
+use Rattle.lexis.specs.Symbol.{symOf, symbolOf, other, minus, aName}
 use Rattle.lists.specs.Reading.{isNumber, contentOf}
 use Rattle.lists.proofs.Leaves.{keyword-not}
 use Rattle.writing.specs.Spelling.{holdsSingle, quoteFor}
@@ -254,11 +254,15 @@ mark-token w n = record { name = λ h. absurd (n h); number = λ h. absurd (fals
 operator-token : (w : List ℕ) → Good Kind.operator w
 unfolding symbolOf
 operator-token w = record {
-  name = λ h. absurd (omega arith);
+  name = λ h. absurd (no-name (sameBytes w (ascii "-")) h);
   number = λ h. absurd (false≢true h);
   whole = λ h. absurd (omega arith);
   text = λ h. absurd (omega arith);
 }
+  where
+    no-name : (b : Bool) → cond b minus other ≡ aName → ⊥
+    no-name true h = omega arith
+    no-name false h = omega arith
 
 mark-fine : (x : ℕ) (s : List ℕ) → Fine (x ∷ s) (markLexeme x (getD s 0 0))
 unfolding markLexeme isArrow classOf

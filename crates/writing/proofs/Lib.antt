@@ -14,6 +14,7 @@ pub mod Held
 pub mod WriterCalls
 -- Spellings, values, arguments, names and left sides.
 pub mod Spelled
+pub mod Signs
 pub mod Leaves
 pub mod ReadParts
 pub mod ValuePuts

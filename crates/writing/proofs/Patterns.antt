@@ -22,7 +22,7 @@ use Rattle.syntax.specs.declared.Parsed.{Parsed}
 use Rattle.syntax.specs.declared.Parsed.the-variants.{Done, Fault}
 use Rattle.lexis.specs.Symbol.{symOf, leftRound, rightRound, leftSquare, rightSquare, comma, equal}
 use Rattle.lexis.specs.Symbol.{aName as nameSymbol}
-use Rattle.syntax.specs.Tree.{Value, Values, Ty, Tys}
+use Rattle.syntax.specs.Tree.{Literal, Value, Values, Ty, Tys}
 use Rattle.syntax.specs.Tree.Value.{name, literal, array, tuple}
 use Rattle.syntax.specs.Tree.Values.{none, more}
 use Rattle.syntax.specs.Tree.Ty.{tensor, extent, scalar, logical, string, arrayOf, tupleOf}
@@ -103,7 +103,7 @@ mutual
   -- an array and a tuple are read item by item
   data IsRead : Value → Val → Type 0 where
     name-read : {t : Token} → IsRead (name t) (vName (t .bytes))
-    literal-read : {t : Token} {w : Val} → IsRead (literal t) w
+    literal-read : {l : Literal} {w : Val} → IsRead (literal l) w
     array-read : {t : Token} {vs : Values} {ws : Vals} → AreRead vs ws → IsRead (array t vs) (vArray ws)
     tuple-read : {t : Token} {vs : Values} {ws : Vals} → AreRead vs ws → IsRead (tuple t vs) (vTuple ws)
 
@@ -171,7 +171,7 @@ mutual
 
   read-is : (v : Value) (u : Ty) (w : Val) → readAt v u ≡ some w → IsRead v w
   read-is (name t) u w e = name-is t u w e
-  read-is (literal t) u w e = literal-read
+  read-is (literal l) u w e = literal-read
   read-is (array t vs) u w e = array-is t vs u w (λ x ws h. all-read vs x ws h) e
   read-is (tuple t vs) u w e = tuple-is t vs u w (λ xs ws h. each-read vs xs ws h) e
 

@@ -12,7 +12,7 @@ use lib.ListN.{getD}
 use Rattle.lexis.specs.Kind as Kind
 use Rattle.lexis.specs.Lexer.{Token}
 use Rattle.lexis.specs.Symbol.{symOf, symbolOf, isLiteral, aName}
-use Rattle.syntax.specs.Tree.{Value, Values, Ty, Tys}
+use Rattle.syntax.specs.Tree.{Literal, Value, Values, Ty, Tys}
 use Rattle.syntax.specs.Tree.Value.{name, literal, array, tuple}
 use Rattle.syntax.specs.Tree.Values.{more}
 use Rattle.syntax.specs.Tree.Tys.{no-type, a-type}
@@ -104,12 +104,12 @@ none-or-none : {A : Type 0} (x : Bool) {a : A} → cond x nothing nothing ≡ so
 none-or-none true e = clash (cc)
 none-or-none false e = clash (cc)
 
-pub leaf-word : (k : ℕ) {c : ℕ} {ts xs : List Token} {u : Ty} (t : Token) {w : Val} → IsBase c ts u xs → leafAt (stacked k u) t ≡ some w
-    → IsTypeName (lookahead ts) u × (leafAt u t ≡ some w)
+pub leaf-word : (k : ℕ) {c : ℕ} {ts xs : List Token} {u : Ty} (n : Bool) (t : Token) {w : Val} → IsBase c ts u xs → leafAt (stacked k u) n t ≡ some w
+    → IsTypeName (lookahead ts) u × (leafAt u n t ≡ some w)
 unfolding stacked
-leaf-word zero t (a-word h) e = (h, e)
-leaf-word zero t (a-tuple-base f d h) e = absurd (none-or-none (eqb (t .kind) Kind.name) e)
-leaf-word (suc k) t h e = absurd (none-or-none (eqb (t .kind) Kind.name) e)
+leaf-word zero n t (a-word h) e = (h, e)
+leaf-word zero n t (a-tuple-base f d h) e = absurd (none-or-none (eqb (t .kind) Kind.name) e)
+leaf-word (suc k) n t h e = absurd (none-or-none (eqb (t .kind) Kind.name) e)
 
 -- a token that is seen as a name is one, and one that is seen as a literal is none
 name-kind : (t : Token) → getD (t .bytes) 0 0 < 256 → symOf t ≡ aName → eqb (t .kind) Kind.name ≡ true
@@ -130,10 +130,10 @@ literal-kind t h = go (eqb (t .kind) Kind.name) refl
     go true e = let q : isLiteral aName ≡ true = simp e at h in absurd (clash (cc))
     go false e = refl
 
-pub name-leaf : (t : Token) (u : Ty) → getD (t .bytes) 0 0 < 256 → symOf t ≡ aName → leafAt u t ≡ readAt (name t) u
+pub name-leaf : (t : Token) (u : Ty) → getD (t .bytes) 0 0 < 256 → symOf t ≡ aName → leafAt u false t ≡ readAt (name t) u
 unfolding readAt
 name-leaf t u l e = simp (name-kind t l e)
 
-pub literal-leaf : (t : Token) (u : Ty) → isLiteral (symOf t) ≡ true → leafAt u t ≡ readAt (literal t) u
+pub literal-leaf : (l : Literal) (u : Ty) → isLiteral (symOf (l .token)) ≡ true → leafAt u (l .negative) (l .token) ≡ readAt (literal l) u
 unfolding readAt
-literal-leaf t u e = simp (literal-kind t e)
+literal-leaf l u e = simp (literal-kind (l .token) e)

@@ -7,8 +7,8 @@ use Prim.Native.Nat.{ℕ, zero, suc, _+_, _-_, _*_, _^_, _/_, _%_, _≤_, _<_}
 use native.Mathlib.Decide.{decLt}
 use native.Mathlib.Omega.{arith}
 use native.Mathlib.Numerals.{add-one}
-use borrow.Author.Tests.{eq-eqb, ne-eqb, lt-ltb, le-ltb, ltb-true, leb-true}
-use lib.Dec.{T, ltb, leb}
+use borrow.Author.Tests.{eq-eqb, ne-eqb, eqb-true, eqb-false, lt-ltb, le-ltb, ltb-true, leb-true}
+use lib.Dec.{T, eqb, ltb, leb}
 use lib.IntN.{ℤ, pos, negsuc, natAbs, _-ℤ_, +ℤ-idl}
 use lib.Signed.{mag, ltZ, nonNeg}
 use lib.ListN.{length, getD, set, take, drop, length-set, length-drop, drop-of-length-le}
@@ -136,6 +136,14 @@ all-drop f zero a = a
 all-drop f (suc i) none = none
 all-drop f (suc i) (more h a) = all-drop f i a
 
+-- a zero that leads nothing is the last digit
+zero-last : (w : List ℕ) (i : ℕ) → Unpadded w i → getD w i 0 ≡ byte "0" → length w ≤ suc i
+zero-last w i u z = go (decLt (i + 1) (length w))
+  where
+    go : Dec (i + 1 < length w) → length w ≤ suc i
+    go (yes h) = absurd (u .leading h z)
+    go (no n) = omega (arith, n)
+
 pub digits-kept : (w : List ℕ) (i : ℕ) → AreDigits w → Unpadded w i → drop i w ≡ decimal (valueFrom 0 w)
 digits-kept w i d u =
     let l = u .inside (d .begun) in
@@ -145,14 +153,28 @@ digits-kept w i d u =
   where
     go : All isDigit (getD w i 0 ∷ drop (suc i) w) → drop i w ≡ getD w i 0 ∷ drop (suc i) w → valueFrom 0 (drop i w) ≡ valueFrom 0 w
         → decimal (valueFrom 0 (drop i w)) ≡ drop i w
-    go (more h a) e s = rw e (digits-own (getD w i 0) h a λ z. drop-of-length-le w (leading z))
-      where
-        leading : getD w i 0 ≡ byte "0" → length w ≤ suc i
-        leading z = go′ (decLt (i + 1) (length w))
-          where
-            go′ : Dec (i + 1 < length w) → length w ≤ suc i
-            go′ (yes h) = absurd (u .leading h z)
-            go′ (no n) = omega (arith, n)
+    go (more h a) e s = rw e (digits-own (getD w i 0) h a λ z. drop-of-length-le w (zero-last w i u z))
+
+-- the first digit that does not lead is zero where the number is
+pub zero-first : (w : List ℕ) (i : ℕ) → AreDigits w → Unpadded w i → eqb (getD w i 0) (byte "0") ≡ eqb (valueFrom 0 w) 0
+unfolding valueFrom
+zero-first w i d u = go (eqb (getD w i 0) (byte "0")) refl
+  where
+    here : drop i w ≡ getD w i 0 ∷ drop (suc i) w
+    here = drop-cons w i 0 (u .inside (d .begun))
+
+    nought : getD w i 0 ≡ byte "0" → valueFrom 0 w ≡ 0
+    nought z = sym (u .same) ∙ (ap (valueFrom 0) here ∙ rw (z, drop-of-length-le w (zero-last w i u z)))
+
+    first : valueFrom 0 w ≡ 0 → getD w i 0 ≡ byte "0"
+    first z =
+        let q : getD w i 0 ∷ drop (suc i) w ≡ byte "0" ∷ [] =
+        sym here ∙ (digits-kept w i d u ∙ (ap decimal z ∙ digits-one 0 (omega arith))) in
+        cc
+
+    go : (b : Bool) → eqb (getD w i 0) (byte "0") ≡ b → b ≡ eqb (valueFrom 0 w) 0
+    go true e = sym (eq-eqb (valueFrom 0 w) 0 (nought (eqb-true (getD w i 0) (byte "0") e)))
+    go false e = sym (ne-eqb (valueFrom 0 w) 0 (λ z. eqb-false (getD w i 0) (byte "0") e (first z)))
 
 -- a zero before another digit leads
 pub unpadded-next : (w : List ℕ) (i : ℕ) → i < length w → getD w i 0 ≡ byte "0" → valueFrom 0 (drop i w) ≡ valueFrom 0 (drop (i + 1) w)

@@ -6,6 +6,7 @@ use mathlib.Core.Bool.{Bool, true, false, _||_, true≢false}
 use mathlib.Core.List.{List, _∷_}
 use mathlib.Core.Option.{some}
 use Prim.Native.Nat.{ℕ, _+_, _-_, _<_, _≤_}
+use native.Mathlib.Nat.{add-zero}
 use native.Mathlib.Omega.{arith}
 use borrow.Author.Tests.{eqb-true, eq-eqb, ne-eqb}
 use lib.Dec.{eqb}
@@ -13,19 +14,19 @@ use lib.ListN.{getD}
 use Rattle.lexis.specs.Ascii.{ascii}
 use Rattle.lexis.specs.Kind as Kind
 use Rattle.lexis.specs.Lexer.{Token}
-use Rattle.lexis.specs.Symbol.{leftRound, rightRound, leftSquare, rightSquare, comma, aName}
-use Rattle.syntax.specs.Tree.{Value, Values, Ty, Tys}
+use Rattle.lexis.specs.Symbol.{leftRound, rightRound, leftSquare, rightSquare, comma, minus, isLiteral, aName}
+use Rattle.syntax.specs.Tree.{unsigned, negated, Value, Values, Ty, Tys}
 use Rattle.syntax.specs.Tree.Values.{none, more}
 use Rattle.syntax.specs.Tree.Tys.{no-type}
-use Rattle.syntax.specs.Grammar.{Leaves, Spells, Items, IsTypeName, IsType}
+use Rattle.syntax.specs.Grammar.{Leaves, Spells, Items, IsType}
+use Rattle.syntax.specs.Grammar.IsLiteral.{no-sign, a-sign}
 use Rattle.syntax.specs.Grammar.Spells.{a-name, a-literal, an-empty-array, an-array, a-tuple}
 use Rattle.syntax.specs.Grammar.Items.{last-item, next-item}
 use Rattle.syntax.specs.Parser.{value, type}
 use Rattle.syntax.specs.Parser.Parse.{ok}
-use Rattle.syntax.specs.Table.{tokenAt, toks, Holds}
-use Rattle.syntax.specs.Inner.{theEnd, lookahead}
-use Rattle.syntax.proofs.Table.{toks-none, toks-more, toks-rest}
-use Rattle.syntax.proofs.Symbols.{look-none}
+use Rattle.syntax.specs.Table.{toks, Holds}
+use Rattle.syntax.specs.Inner.{lookahead}
+use Rattle.syntax.proofs.Table.{toks-none, toks-rest}
 use Rattle.lists.specs.Reading.{Val, Vals, vArray, vTuple, no-val, a-val, readAt, readAll, readEach}
 use Rattle.lists.specs.Fitting.{stacked, IsBase, NoPair, Shaped, Columns, InArray}
 use Rattle.lists.specs.Fitting.Columns.{last-column, next-column}
@@ -37,12 +38,12 @@ use Rattle.lists.proofs.TypeTokens.{base-none}
 use Rattle.lists.proofs.TypeTokens.{shape as shape-of}
 use Rattle.lists.proofs.Answers.{Seen, seen, look, literal-look, behind, round-no-pair, comma-no-pair}
 use Rattle.lists.proofs.Answers.{array-flat as flat-no-fit}
-use Rattle.lists.proofs.Answers.Seen.{a-name-seen, a-literal-seen, an-array-seen, a-tuple-seen}
-use Rattle.documents.proofs.Items.{token-there}
+use Rattle.lists.proofs.Answers.Seen.{a-name-seen, a-literal-seen, a-sign-seen, an-array-seen, a-tuple-seen}
+use Rattle.documents.proofs.Items.{token-there, token-is}
 use Rattle.writing.specs.declared.place.Place.{Place}
 use Rattle.writing.specs.declared.value.Put.{Put}
 use Rattle.writing.specs.Layout.{mark, pieces, items, moreItems}
-use Rattle.writing.specs.Writing.{Puts, PutsWord, leafAt, Opens, PutsValue, PutsArray, PutsTuple}
+use Rattle.writing.specs.Writing.{Puts, PutsWord, leafAt, PutsLeaf, signsOf, Opens, PutsValue, PutsArray, PutsTuple}
 use Rattle.writing.proofs.Putting.{puts-then}
 use Rattle.writing.proofs.ReadParts.{unread, Parted, all-parts, each-parts, OneOrMore, all-some, each-some, array-items, TupleRead, tuple-items}
 use Rattle.writing.proofs.ReadParts.{leaf-word, name-leaf, literal-leaf}
@@ -82,11 +83,12 @@ next-pieces w close p q one-or-more f = puts-then p (puts-then (q Kind.syntactic
 
 -- ---- a value by its first token
 
--- what begins neither an array nor a tuple begins a leaf
+-- what begins neither an array nor a tuple begins a leaf, whose terminal is no byte
 leaf-range : {m : Leaves} {ts us : List Token} {v : Value} {s : ℕ} → Seen m ts v us → s ≡ lookahead ts → (s ≡ leftSquare → ⊥) → (s ≡ leftRound → ⊥)
-    → (aName ≤ s) × (s < theEnd)
-leaf-range (a-name-seen p f) e x y = let z = look p f e in (omega arith, omega arith)
-leaf-range (a-literal-seen p f) e x y = let z = literal-look p f e in (omega (arith, z .0), z .1)
+    → aName ≤ s
+leaf-range (a-name-seen p f) e x y = let z = look p f e in omega arith
+leaf-range (a-literal-seen p f) e x y = omega (arith, literal-look p f e .0)
+leaf-range (a-sign-seen p f g) e x y = let z = look p f e in omega arith
 leaf-range (an-array-seen p f h) e x y = absurd (x (look p f e))
 leaf-range (a-tuple-seen p f h) e x y = absurd (y (look p f e))
 
@@ -120,6 +122,7 @@ module _ (text table : List ℕ) (n i : ℕ) (ttext ttable : List ℕ) (tn t k s
           → Puts (pieces w) out out' a (r .place) × (us ≡ toks text table n (r .next))
       go (a-name-seen p f) q = absurd (omega (arith, look p f sees))
       go (a-literal-seen p f) q = absurd (omega (arith, literal-look p f sees .0))
+      go (a-sign-seen p f g) q = absurd (omega (arith, look p f sees))
       go {us = us} (an-array-seen {b = b} {o = o} {vs = vs} d l x) q =
           let y = array-items k u o vs z q in
           let j = f m b vs us c u ws (y .0) (subst (λ (xs : List Token). InArray m b xs vs us) (behind d ∙ toks-rest text table n i) x) h (y .1) in
@@ -134,6 +137,7 @@ module _ (text table : List ℕ) (n i : ℕ) (ttext ttable : List ℕ) (tn t k s
           → Puts (pieces w) out out' a (r .place) × (us ≡ toks text table n (r .next))
       go (a-name-seen p f) q = absurd (omega (arith, look p f sees))
       go (a-literal-seen p f) q = absurd (omega (arith, literal-look p f sees .0))
+      go (a-sign-seen p f g) q = absurd (omega (arith, look p f sees))
       go (an-array-seen p f x) q = absurd (omega (arith, look p f sees))
       go {us = us} (a-tuple-seen {b = b} {o = o} {vs = vs} d l x) q = each (tuple-items k o vs h q)
         where
@@ -146,30 +150,44 @@ module _ (text table : List ℕ) (n i : ℕ) (ttext ttable : List ℕ) (tn t k s
   pub no-type-there : (out out' : List ℕ) (a : Place) (r : Put) → tn ≤ t → PutsHere out out' a r
   no-type-there out out' a r e m b v us c u ws w g h q = absurd (base-none (toks-none ttext ttable tn t e) h)
 
-  module _ (e : s ≡ leftSquare → ⊥) (d : s ≡ leftRound → ⊥) where
-    pub no-value-there : (out out' : List ℕ) (a : Place) (r : Put) → n ≤ i → PutsHere out out' a r
-    no-value-there out out' a r l m b v us c u ws w g h q = absurd (omega (arith, look-none text table n i l, leaf-range (seen g) sees e d .1))
+  -- a leaf: a name, a literal, or a sign and a number
+  pub leaf-there : {out out' : List ℕ} {a : Place} (r : Put) (o : ℕ) → (s ≡ leftSquare → ⊥) → (s ≡ leftRound → ⊥) → ((j : ℕ) → getD text j 0 < 256)
+      → Holds text table n → o ≡ lookahead (toks ttext ttable tn t) → PutsLeaf text table n (i + signsOf s) (eqb s minus) o out out' a r → PutsHere out out' a r
+  leaf-there {out} {out'} {a} r o e d bytes holds type-sees put m b v us c u ws w g h q = go (seen g) q
+    where
+      placed : (j : ℕ) (negative : Bool) → signsOf s ≡ j → eqb s minus ≡ negative → PutsLeaf text table n (i + j) negative o out out' a r
+      placed j negative p f =
+          subst (λ (k : ℕ). PutsLeaf text table n (i + k) negative o out out' a r) p
+          (subst (λ (b : Bool). PutsLeaf text table n (i + signsOf s) b o out out' a r) f put)
 
-    -- a leaf
-    pub leaf-there : {out out' : List ℕ} {a : Place} (b : Place) (o : ℕ) → i < n → ((j : ℕ) → getD text j 0 < 256) → Holds text table n
-        → o ≡ lookahead (toks ttext ttable tn t)
-        → ((u : Ty) (w : Val) → IsTypeName o u → leafAt u (tokenAt text table i) ≡ some w → Puts (pieces w) out out' a b)
-        → PutsHere out out' a (record { place = b; next = i + 1 })
-    leaf-there {out} {out'} {a} b o l bytes holds type-sees put m b' v us c u ws w g h q = go (seen g) q
-      where
-        first : {x : Token} {us : List Token} → toks text table n i ≡ x ∷ us → (x ≡ tokenAt text table i) × (us ≡ toks text table n (i + 1))
-        first p = let y = sym p ∙ toks-more text table n i l in (cc, cc)
+      there : (j : ℕ) (negative : Bool) {x : Token} {us : List Token} → signsOf s ≡ j → eqb s minus ≡ negative → toks text table n (i + j) ≡ x ∷ us
+          → leafAt (stacked k u) negative x ≡ some w → Puts (pieces w) out out' a (r .place) × (us ≡ toks text table n (r .next))
+      there j negative {x} p f z l =
+          let y = leaf-word k negative x h l in
+          let at = token-is text table n (i + j) z in
+          let g = placed j negative p f u w (token-there text table n (i + j) z) (rw (sym type-sees) at (y .0)) (rw at at (y .1)) in
+          (g .0, behind z ∙ (toks-rest text table n (i + j) ∙ ap (λ (k : ℕ). toks text table n k) (sym (g .1))))
 
-        there : {x : Token} {us : List Token} → toks text table n i ≡ x ∷ us → leafAt (stacked k u) x ≡ some w
-            → Puts (pieces w) out out' a b × (us ≡ toks text table n (i + 1))
-        there {x} p f = let y = leaf-word k x h f in (put u w (rw (sym type-sees) at (y .0)) (rw (first p .0) at (y .1)), first p .1)
+      here : {us : List Token} → toks text table n i ≡ us → toks text table n (i + 0) ≡ us
+      here z = ap (λ (k : ℕ). toks text table n k) (add-zero i) ∙ z
 
-        go : {v : Value} {us : List Token} → Seen m (toks text table n i) v us → readAt v (stacked k u) ≡ some w
-            → Puts (pieces w) out out' a b × (us ≡ toks text table n (i + 1))
-        go (a-name-seen {t = x} p f) q = there p (name-leaf x (stacked k u) (rw (first p .0) (first-byte text table n i holds l bytes)) f ∙ q)
-        go (a-literal-seen {t = x} p f) q = there p (literal-leaf x (stacked k u) f ∙ q)
-        go (an-array-seen p f x) q = absurd (e (look p f sees))
-        go (a-tuple-seen p f x) q = absurd (d (look p f sees))
+      unsigned-here : (s ≡ minus → ⊥) → {x : Token} {us : List Token} → toks text table n i ≡ x ∷ us
+          → leafAt (stacked k u) false x ≡ some w → Puts (pieces w) out out' a (r .place) × (us ≡ toks text table n (r .next))
+      unsigned-here e z l = let f = ne-eqb s minus e in there 0 false (simp f) f (here z) l
+
+      go : {v : Value} {us : List Token} → Seen m (toks text table n i) v us → readAt v (stacked k u) ≡ some w
+          → Puts (pieces w) out out' a (r .place) × (us ≡ toks text table n (r .next))
+      go (a-name-seen {t = x} p f) q =
+          let l = token-there text table n i p in
+          unsigned-here (λ z. omega (arith, look p f sees)) p
+          (name-leaf x (stacked k u) (rw (token-is text table n i p) (first-byte text table n i holds l bytes)) f ∙ q)
+      go (a-literal-seen {t = x} p f) q =
+          unsigned-here (λ z. omega (arith, literal-look p f sees .1)) p (literal-leaf (unsigned x) (stacked k u) f ∙ q)
+      go (a-sign-seen {x = x} {t = y} p f g) q =
+          let z = look p f sees in
+          there 1 true (rw z) (rw z) (sym (behind p ∙ toks-rest text table n i)) (literal-leaf (negated x y) (stacked k u) (ap isLiteral g) ∙ q)
+      go (an-array-seen p f x) q = absurd (e (look p f sees))
+      go (a-tuple-seen p f x) q = absurd (d (look p f sees))
 
 -- ---- items one by one
 
@@ -240,7 +258,7 @@ module _ (text table : List ℕ) (n i : ℕ) (ts : List Token) (k : ℕ) where
   array-empty {out} {out'} {a} {b = b'} s sees e p m b vs us c u xs ws g h q = go refl g q
     where
       started : {m : Leaves} {b : ℕ} {v : Value} {ys us : List Token} → toks text table n i ≡ ys → Spells m b ys v us → ⊥
-      started d x = let y = leaf-range (seen x) (sees ∙ ap lookahead d) (λ z. omega arith) (λ z. omega arith) in omega (arith, y .0)
+      started d x = let y = leaf-range (seen x) (sees ∙ ap lookahead d) (λ z. omega arith) (λ z. omega arith) in omega (arith, y)
 
       go : {ys : List Token} {vs : Values} {us : List Token} → toks text table n i ≡ ys → InArray m b ys vs us → readAll vs (stacked k u) ≡ some ws
           → Puts (λ r. items ws (mark (ascii "]") ∷ r)) out out' a b' × (us ≡ toks text table n (i + 1))
@@ -347,7 +365,8 @@ value-inside text table n i m b h = go (value-is m b (toks text table n i) h) re
   where
     go : {b : ℕ} {ts us : List Token} {v : Value} → Spells m b ts v us → toks text table n i ≡ ts → i < n
     go (a-name q e) z = token-there text table n i z
-    go (a-literal q e) z = token-there text table n i z
+    go (a-literal q (no-sign e)) z = token-there text table n i z
+    go (a-literal q (a-sign e f)) z = token-there text table n i z
     go (an-empty-array e f) z = token-there text table n i z
     go (an-array e f) z = token-there text table n i z
     go (a-tuple e f g r) z = token-there text table n i z

@@ -4,10 +4,12 @@ use Prim.Native.Nat.{ℕ}
 use mathlib.Core.List.{List, [], _∷_}
 use mathlib.Core.Option.{Option, some}
 use mathlib.Core.Option.{none as nothing}
+use lib.IntN.{ℤ, pos, negsuc, natAbs}
 use Rattle.lexis.specs.Ascii.{ascii}
 use Rattle.lexis.specs.Kind as Kind
+use Rattle.lexis.specs.Number.{Reduced}
 use Rattle.syntax.specs.Tree.{Param, Header}
-use Rattle.lists.specs.Reading.{Val, Vals, vName, vNumber, vExtent, vString, vLogical, vArray, vTuple, no-val, a-val}
+use Rattle.lists.specs.Reading.{SignedNumber, Val, Vals, vName, vNumber, vExtent, vString, vLogical, vArray, vTuple, no-val, a-val}
 use Rattle.lists.specs.Found.{operationOf}
 use Rattle.writing.specs.Plan.{PlanCall, Plan}
 use Rattle.writing.specs.Spelling.{decimal, spellNumber, spellString, spellTruth}
@@ -33,12 +35,21 @@ mark w = piece Kind.syntactic w
 
 -- ---- values
 
--- a leaf by its spelling; the items of an array and of a tuple parted by one comma
+-- the sign of a negative number (`negsuc n` is the number -1 - n); any other has none
+unfoldable pub signPieces : ℤ → List Piece → List Piece
+signPieces (pos n) r = r
+signPieces (negsuc n) r = piece Kind.operator (ascii "-") ∷ r
+
+-- a number without its sign
+abbrev pub unsignedOf : SignedNumber → Reduced
+unsignedOf n = record { mantissa = natAbs (n .mantissa); exponent = n .exponent }
+
+-- a leaf by its spelling, after its sign; the items of an array and of a tuple parted by one comma
 unfoldable mutual
   pub pieces : Val → List Piece → List Piece
   pieces (vName w) r = namePiece w ∷ r
-  pieces (vNumber n) r = piece Kind.real (spellNumber n) ∷ r
-  pieces (vExtent n) r = piece Kind.whole (decimal n) ∷ r
+  pieces (vNumber n) r = signPieces (n .mantissa) (piece Kind.real (spellNumber (unsignedOf n)) ∷ r)
+  pieces (vExtent z) r = signPieces z (piece Kind.whole (decimal (natAbs z)) ∷ r)
   pieces (vString s) r = piece Kind.string (spellString s) ∷ r
   pieces (vLogical b) r = piece Kind.truth (spellTruth b) ∷ r
   pieces (vArray vs) r = mark (ascii "[") ∷ items vs (mark (ascii "]") ∷ r)
@@ -58,7 +69,7 @@ unfoldable pub leftPieces : Val → List Piece → List Piece
 leftPieces (vTuple vs) r = items vs r
 leftPieces (vName w) r = pieces (vName w) r
 leftPieces (vNumber n) r = pieces (vNumber n) r
-leftPieces (vExtent n) r = pieces (vExtent n) r
+leftPieces (vExtent z) r = pieces (vExtent z) r
 leftPieces (vString s) r = pieces (vString s) r
 leftPieces (vLogical b) r = pieces (vLogical b) r
 leftPieces (vArray vs) r = pieces (vArray vs) r

@@ -21,7 +21,7 @@ unfoldable pub spellExponent : ℤ → List ℕ
 spellExponent (pos n) = decimal n
 spellExponent (negsuc n) = byte "-" ∷ decimal (suc n)
 
--- a reduced number: mantissa, `e`, exponent
+-- a reduced number: mantissa, `e`, exponent; the sign of a number is a token of its own
 unfoldable pub spellNumber : Reduced → List ℕ
 spellNumber r = decimal (r .mantissa) ++ (byte "e" ∷ spellExponent (r .exponent))
 

@@ -2,7 +2,7 @@
 -- goes on, and that the pieces of a part were put. A byte beyond the output is counted and not stored.
 use Prim.Native.Nat.{ℕ, suc, _+_, _-_, _*_, _<_, _≤_}
 use mathlib.Core.Path.{_≡_}
-use mathlib.Core.Bool.{Bool, true, false, cond, _&&_}
+use mathlib.Core.Bool.{Bool, true, false, cond, not, _&&_}
 use mathlib.Core.List.{List, [], _∷_, flatMap}
 use mathlib.Core.Option.{Option, some}
 use mathlib.Core.Option.{none as nothing}
@@ -15,10 +15,10 @@ use Rattle.lexis.specs.Words.{sameBytes}
 use Rattle.lexis.specs.Kind as Kind
 use Rattle.lexis.specs.Number.{partsOf, valueFrom, inRange}
 use Rattle.lexis.specs.Lexer.{Token}
-use Rattle.lexis.specs.Symbol.{symOf, leftRound, rightRound, leftSquare}
+use Rattle.lexis.specs.Symbol.{symOf, leftRound, rightRound, leftSquare, minus}
 use Rattle.syntax.specs.Tree.{Value, Values, Ty, Tys, Param, Header, Arg, Call, Document}
 use Rattle.syntax.specs.Tree.Arg.{positional, named}
-use Rattle.syntax.specs.Grammar.{Leaves, names, both, Spells, Items}
+use Rattle.syntax.specs.Grammar.{Leaves, names, both, Spells, Items, IsTypeName}
 use Rattle.syntax.specs.Parser.{Parse, plain, commas, row, value, argument, call, parseDocument}
 use Rattle.syntax.specs.Parser.Parse.{ok, bad}
 use Rattle.syntax.specs.Inner.{lookahead}
@@ -125,6 +125,10 @@ pub record AreDigits (w : List ℕ) : Type 0 where
 
 -- ---- values
 
+-- a sign, where there is one and the number is not zero
+abbrev pub signIf : Bool → Bool → List Piece → List Piece
+signIf negative zero r = cond (negative && not zero) (piece Kind.operator (ascii "-") ∷ r) r
+
 -- a token of kind k and bytes w is as the lexer has it: a number is in range and not too long, and a whole one has digits alone
 pub record AsLexed (k : ℕ) (w : List ℕ) : Type 0 where
   pub number : isNumber k ≡ true → (inRange w (partsOf w) ≡ true) × (length w ≤ maxNumber)
@@ -135,9 +139,19 @@ pub record Ranged (classes text table : List ℕ) (n : ℕ) : Type 0 where
   pub classed : classes ≡ classTable
   pub within : (i : ℕ) → i < n → AsLexed (kindAt table i) (tokenAt text table i .bytes)
 
--- the value of a leaf at a type
-abbrev pub leafAt : Ty → Token → Option Val
-leafAt u t = cond (eqb (t .kind) Kind.name) (nameAt u (t .bytes)) (literalAt u (t .kind) (t .bytes))
+-- the value of a leaf at a type, with a sign before it or without one
+abbrev pub leafAt : Ty → Bool → Token → Option Val
+leafAt u negative t = cond (eqb (t .kind) Kind.name) (nameAt u (t .bytes)) (literalAt u negative (t .kind) (t .bytes))
+
+-- the leaf at place i was put at the type word `at`, and ends before place r .next
+abbrev pub PutsLeaf : List ℕ → List ℕ → ℕ → ℕ → Bool → ℕ → List ℕ → List ℕ → Place → Put → Type 0
+PutsLeaf text table n i negative at out out' s r =
+    (u : Ty) (w : Val) → i < n → IsTypeName at u → leafAt u negative (tokenAt text table i) ≡ some w
+    → Puts (pieces w) out out' s (r .place) × (r .next ≡ i + 1)
+
+-- how many tokens stand before that of a leaf that begins with the terminal c: a sign, or none
+abbrev pub signsOf : ℕ → ℕ
+signsOf c = cond (eqb c minus) 1 0
 
 -- these tokens begin with an opening bracket, square or round, of terminal c
 pub record Opens (ts : List Token) (c : ℕ) : Type 0 where

@@ -3,6 +3,7 @@ use crate::place::Place;
 use crate::place::one_more;
 use crate::place::put_byte;
 use crate::place::put_bytes;
+use crate::place::put_mark;
 use crate::place::put_word;
 use crate::writer::write_quoted;
 use lexis::number::Reduction;
@@ -11,13 +12,15 @@ ghost use mathlib.Core.Path.{_≡_};
 ghost use mathlib.Core.Bool.{true};
 ghost use Prim.Native.Nat.{_-_, _<_, _≤_};
 ghost use lib.Dec.{eqb};
-ghost use lib.ListN.{length, take, drop};
+ghost use lib.ListN.{length, getD, take, drop};
+ghost use Rattle.lexis.specs.Ascii.{byte};
 ghost use Rattle.lexis.specs.Bytes.{classTable};
 ghost use Rattle.lexis.specs.Sizes.{maxNumber};
-ghost use Rattle.lexis.specs.Number.{valueFrom, partsOf, reducedOf, isNear, inRange};
-ghost use Rattle.lists.specs.Reading.{contentOf};
+ghost use Rattle.lexis.specs.Number.{valueFrom, partsOf, isNear, inRange, signed};
+ghost use Rattle.lists.specs.Reading.{vNumber, vExtent, contentOf, numberOf};
 ghost use Rattle.writing.specs.Spelling.{decimal, spellExponent, spellNumber, quoteFor, spellString, spellTruth};
-ghost use Rattle.writing.specs.Writing.{passed, stored, PutsWord, Unpadded, AreDigits};
+ghost use Rattle.writing.specs.Layout.{pieces};
+ghost use Rattle.writing.specs.Writing.{passed, stored, Puts, PutsWord, signIf, Unpadded, AreDigits};
 
 // The most digits that a number of 64 bits has.
 const DIGITS: usize = 20;
@@ -78,17 +81,51 @@ fn put_reduced(out: &mut [u8], s: Place, mantissa: u64, exponent: i32) -> Place
     }
 }
 
+// Puts the sign of a number, where it has one and is not zero.
+fn put_sign(out: &mut [u8], s: Place, negative: bool, zero: bool) -> Place
+    ensures { λ r. ⌜ Puts (signIf negative zero) (now (out .entry)) (now (out .exit)) s r ⌝ }
+{
+    if !negative {
+        return s;
+    }
+    if zero {
+        return s;
+    }
+    put_mark(out, s, b'-')
+}
+
+// Puts a reduced number after its sign.
+fn put_signed(out: &mut [u8], s: Place, mantissa: u64, exponent: i32, negative: bool) -> Place
+    requires { ⌜ isNear exponent ≡ true ⌝ }
+    ensures { λ r. ⌜ Puts (pieces (vNumber (record { mantissa = signed negative mantissa; exponent = exponent }))) (now (out .entry)) (now (out .exit)) s r ⌝ }
+{
+    let sign = put_sign(&mut *out, s, negative, mantissa == 0);
+    put_reduced(out, sign, mantissa, exponent)
+}
+
 // Puts a number, whole or real, that is spelt so and in range, as every number is that the lexer has passed.
-pub fn put_number(out: &mut [u8], s: Place, classes: &[u8; 256], word: &[u8]) -> Place
+pub fn put_number(
+    out: &mut [u8],
+    s: Place,
+    classes: &[u8; 256],
+    word: &[u8],
+    negative: bool,
+) -> Place
     requires { ⌜ now classes ≡ classTable ⌝ }
     requires { ⌜ length (now word) ≤ maxNumber ⌝ }
     ensures { λ r. ⌜
         (inRange (now (word .entry)) (partsOf (now (word .entry))) ≡ true
-        → PutsWord (spellNumber (reducedOf (now (word .entry)) (partsOf (now (word .entry))))) (now (out .entry)) (now (out .exit)) s r)
+        → Puts (pieces (numberOf negative (now (word .entry)))) (now (out .entry)) (now (out .exit)) s r)
         ⌝ }
 {
     match reduce(classes, word) {
-        Reduction::Number { mantissa, exponent } => put_reduced(out, s, mantissa, exponent),
+        Reduction::Number { mantissa, exponent } => put_signed(
+            out,
+            s,
+            mantissa,
+            exponent,
+            negative,
+        ),
         Reduction::OutOfRange => s,
     }
 }
@@ -107,12 +144,26 @@ fn zeros(w: &[u8]) -> usize
     i
 }
 
-// Puts a whole number at extent: its digits without leading zeros.
-pub fn put_extent(out: &mut [u8], s: Place, word: &[u8]) -> Place
-    ensures { λ r. ⌜ (AreDigits (now (word .entry)) → PutsWord (decimal (valueFrom 0 (now (word .entry)))) (now (out .entry)) (now (out .exit)) s r) ⌝ }
+// Whether a zero stands at place i.
+fn is_zero(w: &[u8], i: usize) -> bool
+    ensures { λ r. ⌜ r ≡ eqb (getD (now (w .entry)) i 0) (byte "0") ⌝ }
+{
+    if w.len() <= i {
+        return false;
+    }
+    w[i] == b'0'
+}
+
+// Puts a whole number at extent: its sign, and its digits without leading zeros.
+pub fn put_extent(out: &mut [u8], s: Place, word: &[u8], negative: bool) -> Place
+    ensures { λ r. ⌜
+        (AreDigits (now (word .entry))
+        → Puts (pieces (vExtent (signed negative (valueFrom 0 (now (word .entry)))))) (now (out .entry)) (now (out .exit)) s r)
+        ⌝ }
 {
     let from = zeros(word);
-    put_word(out, s, &word[from..word.len()])
+    let sign = put_sign(&mut *out, s, negative, is_zero(word, from));
+    put_word(out, sign, &word[from..word.len()])
 }
 
 // The quote for a string of this content.

@@ -16,11 +16,11 @@ ghost use mathlib.Core.Path.{_≡_};
 ghost use mathlib.Core.Bool.{_||_};
 ghost use mathlib.Core.List.{List};
 ghost use mathlib.Core.Option.{some};
-ghost use Prim.Native.Nat.{ℕ, _<_, _≤_};
+ghost use Prim.Native.Nat.{ℕ, _+_, _<_, _≤_};
 ghost use lib.Dec.{eqb};
 ghost use Rattle.lexis.specs.Bytes.{classTable};
 ghost use Rattle.lexis.specs.Lexer.{Token};
-ghost use Rattle.lexis.specs.Symbol.{leftSquare, leftRound};
+ghost use Rattle.lexis.specs.Symbol.{leftSquare, leftRound, minus};
 ghost use Rattle.syntax.specs.Tree.{Value, Ty};
 ghost use Rattle.syntax.specs.Grammar.{Leaves, IsTypeName};
 ghost use Rattle.syntax.specs.Parser.{value, type};
@@ -29,7 +29,7 @@ ghost use Rattle.syntax.specs.Table.{tokenAt, toks, Holds};
 ghost use Rattle.lists.specs.Reading.{Val, readAt};
 ghost use Rattle.lists.specs.Types.{pairsOf};
 ghost use Rattle.writing.specs.Layout.{pieces};
-ghost use Rattle.writing.specs.Writing.{Puts, AsLexed, Ranged, leafAt, Opens, PutsValue, PutsArray, PutsTuple};
+ghost use Rattle.writing.specs.Writing.{Puts, AsLexed, Ranged, leafAt, PutsLeaf, signsOf, Opens, PutsValue, PutsArray, PutsTuple};
 
 // The kinds of leaf, as words of a token record.
 const NAME: u32 = Kind::NAME as u32;
@@ -44,7 +44,7 @@ pub struct Put {
     pub next: usize,
 }
 
-// Puts a leaf of this kind and spelling at a type word.
+// Puts a leaf of this kind and spelling, with a sign before it or without one, at a type word.
 fn put_spelt(
     out: &mut [u8],
     s: Place,
@@ -52,11 +52,12 @@ fn put_spelt(
     kind: u32,
     word: &[u8],
     at: u32,
+    negative: bool,
 ) -> Place
     requires { ⌜ now classes ≡ classTable ⌝ }
     requires { ⌜ AsLexed kind (now word) ⌝ }
     ensures { λ r. ⌜
-        ((t : Token) (u : Ty) (w : Val) → t .kind ≡ kind → t .bytes ≡ now (word .entry) → IsTypeName at u → leafAt u t ≡ some w
+        ((t : Token) (u : Ty) (w : Val) → t .kind ≡ kind → t .bytes ≡ now (word .entry) → IsTypeName at u → leafAt u negative t ≡ some w
         → Puts (pieces w) (now (out .entry)) (now (out .exit)) s r)
         ⌝ }
 {
@@ -70,15 +71,15 @@ fn put_spelt(
         return put_truth(out, s, word);
     }
     if at == Symbol::EXTENT {
-        return put_extent(out, s, word);
+        return put_extent(out, s, word, negative);
     }
     if Limits::NUMBER < word.len() {
         return s;
     }
-    put_number(out, s, classes, word)
+    put_number(out, s, classes, word, negative)
 }
 
-// Puts the leaf at place i at a type word.
+// Puts the leaf at place i, with a sign before it or without one, at a type word.
 fn put_leaf(
     out: &mut [u8],
     s: Place,
@@ -88,12 +89,13 @@ fn put_leaf(
     n: usize,
     i: usize,
     at: u32,
+    negative: bool,
 ) -> Place
     requires { ⌜ Holds (now text) (now table) n ⌝ }
     requires { ⌜ Ranged (now classes) (now text) (now table) n ⌝ }
     requires { ⌜ i < n ⌝ }
     ensures { λ r. ⌜
-        ((u : Ty) (w : Val) → IsTypeName at u → leafAt u (tokenAt (now (text .entry)) (now (table .entry)) i) ≡ some w
+        ((u : Ty) (w : Val) → IsTypeName at u → leafAt u negative (tokenAt (now (text .entry)) (now (table .entry)) i) ≡ some w
         → Puts (pieces w) (now (out .entry)) (now (out .exit)) s r)
         ⌝ }
 {
@@ -106,7 +108,47 @@ fn put_leaf(
         table[i * Limits::RECORD_WORDS],
         &text[start..end],
         at,
+        negative,
     )
+}
+
+// How many tokens stand before that of a leaf that begins with the terminal c: a sign, or none.
+fn signs(c: u32) -> usize
+    ensures { λ r. ⌜ r ≡ signsOf c ⌝ }
+{
+    if c == Symbol::MINUS {
+        return 1;
+    }
+    0
+}
+
+// Puts the leaf that begins at place v with the terminal c: where that is a sign, the number stands after it.
+fn put_plain(
+    out: &mut [u8],
+    s: Place,
+    classes: &[u8; 256],
+    text: &[u8],
+    table: &[u32],
+    n: usize,
+    v: usize,
+    c: u32,
+    at: u32,
+) -> Put
+    requires { ⌜ Holds (now text) (now table) n ⌝ }
+    requires { ⌜ Ranged (now classes) (now text) (now table) n ⌝ }
+    requires { ⌜ v ≤ n ⌝ }
+    ensures range { λ r. ⌜ (v ≤ r .next) × (r .next ≤ n) ⌝ }
+    ensures meaning { λ r. ⌜ PutsLeaf (now (text .entry)) (now (table .entry)) n (v + signsOf c) (eqb c minus) at (now (out .entry)) (now (out .exit)) s r ⌝ }
+{
+    let i = v + signs(c);
+    if n <= i {
+        return Put { place: s, next: v };
+    }
+    let negative = c == Symbol::MINUS;
+    Put {
+        place: put_leaf(out, s, classes, text, table, n, i, at, negative),
+        next: i + 1,
+    }
 }
 
 // Whether the terminal s opens an array or a tuple.
@@ -160,14 +202,8 @@ fn put_base(
             k,
         );
     }
-    if vn <= v {
-        return Put { place: s, next: v };
-    }
     let at = symbol_at(ttext, ttable, tn, t);
-    Put {
-        place: put_leaf(out, s, classes, vtext, vtable, vn, v, at),
-        next: v + 1,
-    }
+    put_plain(out, s, classes, vtext, vtable, vn, v, c, at)
 }
 
 // The same for an array or a tuple, which the terminal c opens.

@@ -1,4 +1,4 @@
--- A keyword has the terminal of its spelling; what is left is an operator.
+-- A keyword has the terminal of its spelling, and so has an operator.
 use mathlib.Core.Path.{_∙_}
 use borrow.Author.Needs.{needs}
 use Rattle.lexis.specs.Symbol.{symbolOf}
@@ -22,10 +22,36 @@ returns : tie.Need-returns
 unfolding symbolOf
 returns c = simp (c .before .before .if1 .taken) (c .keyword .ensures)
 
+sub-symbol-if : tie.Need-sub-symbol-if
+sub-symbol-if c = search needs
+
+part-symbol-if-start : tie.Need-part-symbol-if-start
+part-symbol-if-start c = search needs
+
+part-symbol-if-end : tie.Need-part-symbol-if-end
+part-symbol-if-end c = search needs
+
+slice-aggregate-symbol-if : tie.Need-slice-aggregate-symbol-if
+slice-aggregate-symbol-if c = search needs
+
+symbol-if-requires : tie.Need-symbol-if-requires
+symbol-if-requires c κs = search needs
+
 returns-2 : tie.Need-returns-2
-returns-2 c = operator-is _ _ (c .before .before .pre .0) (c .if1 .left)
+returns-2 c = c .symbol-if .ensures ∙ operator-is _ _ (c .before .before .before .before .before .pre .0) (c .before .before .before .if1 .left)
 
 pub rare-spec : {M : Type 1} → statement M
 rare-spec =
     tie.close
-    (tie.spec sub-keyword part-keyword-start part-keyword-end keyword-requires returns returns-2)
+    (tie.spec
+    sub-keyword
+    part-keyword-start
+    part-keyword-end
+    keyword-requires
+    returns
+    sub-symbol-if
+    part-symbol-if-start
+    part-symbol-if-end
+    slice-aggregate-symbol-if
+    symbol-if-requires
+    returns-2)

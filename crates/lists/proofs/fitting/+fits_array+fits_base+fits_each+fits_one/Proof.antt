@@ -8,10 +8,10 @@ use native.Mathlib.Omega.{arith}
 use borrow.Author.Tests.{not-true, not-false}
 use Rattle.syntax.specs.Table.{toks}
 use Rattle.syntax.proofs.Symbols.{stands, stands-by}
-use Rattle.lists.specs.Fitting.{isLeafSymbol, Within, OfValue, OfArray, OfEach}
+use Rattle.lists.specs.Fitting.{isLeafSymbol, startsLeaf, Within, OfValue, OfArray, OfEach}
 use lib.ListN.{getD}
 use Rattle.lists.proofs.Answers.{none-within, one-within, wider, never}
-use Rattle.lists.proofs.Answers.{array-flat, array-deep, flat-deep, tuple-word, tuple-each, leaf-answer, leaf-within}
+use Rattle.lists.proofs.Answers.{array-flat, array-deep, flat-deep, tuple-word, tuple-each, leaf-answer, leaf-within, signed-answer, signed-within}
 use Rattle.lists.proofs.Answers.{OfItems, array-empty, array-some, items-no, items-last, items-next, items-neither}
 use Rattle.lists.proofs.Answers.{each-no, each-stop, each-last, each-next}
 use borrow.Author.Needs.{needs}
@@ -32,7 +32,9 @@ use Rattle.lists.proofs.fitting.fits_one.Kinds as fits-one-kinds
 use Rattle.lists.proofs.fitting.+fits_array+fits_base+fits_each+fits_one.Lts-fits_one as fits-one-lts
 use Rattle.lists.proofs.fitting.both.Reads as both-reads
 use Rattle.lists.proofs.fitting.fits_leaf.Reads as fits-leaf-reads
+use Rattle.lists.proofs.fitting.fits_signed.Reads as fits-signed-reads
 use Rattle.lists.proofs.fitting.is_leaf.Reads as is-leaf-reads
+use Rattle.lists.proofs.fitting.starts_leaf.Reads as starts-leaf-reads
 use Rattle.lists.proofs.types.type_of.Reads as type-of-reads
 use Rattle.syntax.proofs.symbol.symbol_at.Reads as symbol-at-reads
 use Rattle.lists.proofs.fitting.+fits_array+fits_base+fits_each+fits_one.{statement}
@@ -457,10 +459,10 @@ fits-array-loop-again t c =
 fits-base-returns : (t : ℕ) → fits-base-lts.Need-returns (
   fits-array-below t,
   fits-array.Post,
-  is-leaf-reads.Asked,
-  is-leaf-reads.Learnt,
-  fits-leaf-reads.Asked,
-  fits-leaf-reads.Learnt,
+  starts-leaf-reads.Asked,
+  starts-leaf-reads.Learnt,
+  fits-signed-reads.Asked,
+  fits-signed-reads.Learnt,
   symbol-at-reads.Asked,
   symbol-at-reads.Learnt,
   both-reads.Asked,
@@ -487,10 +489,10 @@ fits-base-returns t c =
 fits-base-add-fits-array : (t : ℕ) → fits-base-lts.Need-add-fits-array (
   fits-array-below t,
   fits-array.Post,
-  is-leaf-reads.Asked,
-  is-leaf-reads.Learnt,
-  fits-leaf-reads.Asked,
-  fits-leaf-reads.Learnt,
+  starts-leaf-reads.Asked,
+  starts-leaf-reads.Learnt,
+  fits-signed-reads.Asked,
+  fits-signed-reads.Learnt,
   symbol-at-reads.Asked,
   symbol-at-reads.Learnt,
   both-reads.Asked,
@@ -512,10 +514,10 @@ fits-base-add-fits-array t c =
 fits-base-sub-fits-array : (t : ℕ) → fits-base-lts.Need-sub-fits-array (
   fits-array-below t,
   fits-array.Post,
-  is-leaf-reads.Asked,
-  is-leaf-reads.Learnt,
-  fits-leaf-reads.Asked,
-  fits-leaf-reads.Learnt,
+  starts-leaf-reads.Asked,
+  starts-leaf-reads.Learnt,
+  fits-signed-reads.Asked,
+  fits-signed-reads.Learnt,
   symbol-at-reads.Asked,
   symbol-at-reads.Learnt,
   both-reads.Asked,
@@ -528,10 +530,10 @@ fits-base-sub-fits-array t c = search needs
 fits-base-fits-array-requires : (t : ℕ) → fits-base-lts.Need-fits-array-requires (
   fits-array-below t,
   fits-array.Post,
-  is-leaf-reads.Asked,
-  is-leaf-reads.Learnt,
-  fits-leaf-reads.Asked,
-  fits-leaf-reads.Learnt,
+  starts-leaf-reads.Asked,
+  starts-leaf-reads.Learnt,
+  fits-signed-reads.Asked,
+  fits-signed-reads.Learnt,
   symbol-at-reads.Asked,
   symbol-at-reads.Learnt,
   both-reads.Asked,
@@ -553,10 +555,10 @@ fits-base-fits-array-requires t c κs =
 fits-base-returns-2 : (t : ℕ) → fits-base-lts.Need-returns-2 (
   fits-array-below t,
   fits-array.Post,
-  is-leaf-reads.Asked,
-  is-leaf-reads.Learnt,
-  fits-leaf-reads.Asked,
-  fits-leaf-reads.Learnt,
+  starts-leaf-reads.Asked,
+  starts-leaf-reads.Learnt,
+  fits-signed-reads.Asked,
+  fits-signed-reads.Learnt,
   symbol-at-reads.Asked,
   symbol-at-reads.Learnt,
   both-reads.Asked,
@@ -580,13 +582,13 @@ fits-base-returns-2 t c =
       array-deep text table n (a .v) ttext ttable tn (a .t) (a .k) (a .s) sees (r .result) (at-if1 .if1 .taken) (c .before .if2 .left) (r .ensures .1),
     )
 
-fits-base-is-leaf-requires : (t : ℕ) → fits-base-lts.Need-is-leaf-requires (
+fits-base-starts-leaf-requires : (t : ℕ) → fits-base-lts.Need-starts-leaf-requires (
   fits-array-below t,
   fits-array.Post,
-  is-leaf-reads.Asked,
-  is-leaf-reads.Learnt,
-  fits-leaf-reads.Asked,
-  fits-leaf-reads.Learnt,
+  starts-leaf-reads.Asked,
+  starts-leaf-reads.Learnt,
+  fits-signed-reads.Asked,
+  fits-signed-reads.Learnt,
   symbol-at-reads.Asked,
   symbol-at-reads.Learnt,
   both-reads.Asked,
@@ -594,15 +596,15 @@ fits-base-is-leaf-requires : (t : ℕ) → fits-base-lts.Need-is-leaf-requires (
   fits-each-below t,
   fits-each.Post,
 ) (fits-base-at t) fits-base.Post
-fits-base-is-leaf-requires t c κs = search needs
+fits-base-starts-leaf-requires t c κs = search needs
 
-fits-base-fits-leaf-requires : (t : ℕ) → fits-base-lts.Need-fits-leaf-requires (
+fits-base-fits-signed-requires : (t : ℕ) → fits-base-lts.Need-fits-signed-requires (
   fits-array-below t,
   fits-array.Post,
-  is-leaf-reads.Asked,
-  is-leaf-reads.Learnt,
-  fits-leaf-reads.Asked,
-  fits-leaf-reads.Learnt,
+  starts-leaf-reads.Asked,
+  starts-leaf-reads.Learnt,
+  fits-signed-reads.Asked,
+  fits-signed-reads.Learnt,
   symbol-at-reads.Asked,
   symbol-at-reads.Learnt,
   both-reads.Asked,
@@ -610,23 +612,23 @@ fits-base-fits-leaf-requires : (t : ℕ) → fits-base-lts.Need-fits-leaf-requir
   fits-each-below t,
   fits-each.Post,
 ) (fits-base-at t) fits-base.Post
-fits-base-fits-leaf-requires t c κs =
+fits-base-fits-signed-requires t c κs =
     let at-if1 = c .before .before in
     let s = at-if1 .before .before .before .before .before in
     let a = s .args in
     let text = a .vtext .now in
     let table = a .vtable .now in
     let n = a .vn in
-    let leaf = sym (c .before .is-leaf .ensures) ∙ c .if3 .taken in
-    (s .pre .1 .0, stands-by text table n (a .v) isLeafSymbol refl (s .pre .1 .1 .1) leaf)
+    let leaf = sym (c .before .starts-leaf .ensures) ∙ c .if3 .taken in
+    (s .pre .1 .0, stands-by text table n (a .v) startsLeaf refl (s .pre .1 .1 .1) leaf)
 
 fits-base-returns-3 : (t : ℕ) → fits-base-lts.Need-returns-3 (
   fits-array-below t,
   fits-array.Post,
-  is-leaf-reads.Asked,
-  is-leaf-reads.Learnt,
-  fits-leaf-reads.Asked,
-  fits-leaf-reads.Learnt,
+  starts-leaf-reads.Asked,
+  starts-leaf-reads.Learnt,
+  fits-signed-reads.Asked,
+  fits-signed-reads.Learnt,
   symbol-at-reads.Asked,
   symbol-at-reads.Learnt,
   both-reads.Asked,
@@ -646,21 +648,21 @@ fits-base-returns-3 t c =
     let ttable = a .ttable .now in
     let tn = a .tn in
     let sees = s .pre .1 .1 .1 in
-    let leaf = sym (at-leaf .is-leaf .ensures) ∙ c .before .if3 .taken in
-    let h = stands-by text table n (a .v) isLeafSymbol refl sees leaf in
+    let leaf = sym (at-leaf .starts-leaf .ensures) ∙ c .before .if3 .taken in
+    let h = stands-by text table n (a .v) startsLeaf refl sees leaf in
     let bytes : (j : ℕ) → getD (a .vtext .now) j 0 < 256 = λ j. omega (arith, known .shared-slice-known .given j) in
-    let r = c .fits-leaf in (
-      leaf-within text table n (a .v) ttext ttable tn (a .t) (a .k) (a .s) sees (s .pre .1 .0) bytes h leaf (a .kinds) (r .result) (r .ensures),
-      leaf-answer text table n (a .v) ttext ttable tn (a .t) (a .k) (a .s) sees (s .pre .1 .0) bytes h leaf (a .kinds) (r .result) (r .ensures),
+    let r = c .fits-signed in (
+      signed-within text table n (a .v) ttext ttable tn (a .t) (a .k) (a .s) sees (s .pre .1 .0) bytes h leaf (a .kinds) (r .result) (r .ensures),
+      signed-answer text table n (a .v) ttext ttable tn (a .t) (a .k) (a .s) sees (s .pre .1 .0) bytes h leaf (a .kinds) (r .result) (r .ensures),
     )
 
 fits-base-returns-4 : (t : ℕ) → fits-base-lts.Need-returns-4 (
   fits-array-below t,
   fits-array.Post,
-  is-leaf-reads.Asked,
-  is-leaf-reads.Learnt,
-  fits-leaf-reads.Asked,
-  fits-leaf-reads.Learnt,
+  starts-leaf-reads.Asked,
+  starts-leaf-reads.Learnt,
+  fits-signed-reads.Asked,
+  fits-signed-reads.Learnt,
   symbol-at-reads.Asked,
   symbol-at-reads.Learnt,
   both-reads.Asked,
@@ -687,10 +689,10 @@ fits-base-returns-4 t c =
 fits-base-symbol-at-requires : (t : ℕ) → fits-base-lts.Need-symbol-at-requires (
   fits-array-below t,
   fits-array.Post,
-  is-leaf-reads.Asked,
-  is-leaf-reads.Learnt,
-  fits-leaf-reads.Asked,
-  fits-leaf-reads.Learnt,
+  starts-leaf-reads.Asked,
+  starts-leaf-reads.Learnt,
+  fits-signed-reads.Asked,
+  fits-signed-reads.Learnt,
   symbol-at-reads.Asked,
   symbol-at-reads.Learnt,
   both-reads.Asked,
@@ -703,10 +705,10 @@ fits-base-symbol-at-requires t c κs = search needs
 fits-base-both-requires : (t : ℕ) → fits-base-lts.Need-both-requires (
   fits-array-below t,
   fits-array.Post,
-  is-leaf-reads.Asked,
-  is-leaf-reads.Learnt,
-  fits-leaf-reads.Asked,
-  fits-leaf-reads.Learnt,
+  starts-leaf-reads.Asked,
+  starts-leaf-reads.Learnt,
+  fits-signed-reads.Asked,
+  fits-signed-reads.Learnt,
   symbol-at-reads.Asked,
   symbol-at-reads.Learnt,
   both-reads.Asked,
@@ -719,10 +721,10 @@ fits-base-both-requires t c κs = search needs
 fits-base-returns-5 : (t : ℕ) → fits-base-lts.Need-returns-5 (
   fits-array-below t,
   fits-array.Post,
-  is-leaf-reads.Asked,
-  is-leaf-reads.Learnt,
-  fits-leaf-reads.Asked,
-  fits-leaf-reads.Learnt,
+  starts-leaf-reads.Asked,
+  starts-leaf-reads.Learnt,
+  fits-signed-reads.Asked,
+  fits-signed-reads.Learnt,
   symbol-at-reads.Asked,
   symbol-at-reads.Learnt,
   both-reads.Asked,
@@ -745,7 +747,7 @@ fits-base-returns-5 t c =
     let ttable = a .ttable .now in
     let tn = a .tn in
     let sees = s .pre .1 .1 .1 in
-    let nested = sym (at-leaf .is-leaf .ensures) ∙ at-if4 .before .if3 .left in
+    let nested = sym (at-leaf .starts-leaf .ensures) ∙ at-if4 .before .if3 .left in
     let d = at-both .both .ensures .1 (not-true _ (c .if5 .taken)) in (
       none-within n (a .v),
       never text table n (a .v) ttext ttable tn (a .t) (a .k) (a .s) sees
@@ -755,10 +757,10 @@ fits-base-returns-5 t c =
 fits-base-add-fits-each : (t : ℕ) → fits-base-lts.Need-add-fits-each (
   fits-array-below t,
   fits-array.Post,
-  is-leaf-reads.Asked,
-  is-leaf-reads.Learnt,
-  fits-leaf-reads.Asked,
-  fits-leaf-reads.Learnt,
+  starts-leaf-reads.Asked,
+  starts-leaf-reads.Learnt,
+  fits-signed-reads.Asked,
+  fits-signed-reads.Learnt,
   symbol-at-reads.Asked,
   symbol-at-reads.Learnt,
   both-reads.Asked,
@@ -785,10 +787,10 @@ fits-base-add-fits-each t c =
 fits-base-add-fits-each-2 : (t : ℕ) → fits-base-lts.Need-add-fits-each-2 (
   fits-array-below t,
   fits-array.Post,
-  is-leaf-reads.Asked,
-  is-leaf-reads.Learnt,
-  fits-leaf-reads.Asked,
-  fits-leaf-reads.Learnt,
+  starts-leaf-reads.Asked,
+  starts-leaf-reads.Learnt,
+  fits-signed-reads.Asked,
+  fits-signed-reads.Learnt,
   symbol-at-reads.Asked,
   symbol-at-reads.Learnt,
   both-reads.Asked,
@@ -815,10 +817,10 @@ fits-base-add-fits-each-2 t c =
 fits-base-fits-each-requires : (t : ℕ) → fits-base-lts.Need-fits-each-requires (
   fits-array-below t,
   fits-array.Post,
-  is-leaf-reads.Asked,
-  is-leaf-reads.Learnt,
-  fits-leaf-reads.Asked,
-  fits-leaf-reads.Learnt,
+  starts-leaf-reads.Asked,
+  starts-leaf-reads.Learnt,
+  fits-signed-reads.Asked,
+  fits-signed-reads.Learnt,
   symbol-at-reads.Asked,
   symbol-at-reads.Learnt,
   both-reads.Asked,
@@ -848,10 +850,10 @@ fits-base-fits-each-requires t c κs =
 fits-base-returns-6 : (t : ℕ) → fits-base-lts.Need-returns-6 (
   fits-array-below t,
   fits-array.Post,
-  is-leaf-reads.Asked,
-  is-leaf-reads.Learnt,
-  fits-leaf-reads.Asked,
-  fits-leaf-reads.Learnt,
+  starts-leaf-reads.Asked,
+  starts-leaf-reads.Learnt,
+  fits-signed-reads.Asked,
+  fits-signed-reads.Learnt,
   symbol-at-reads.Asked,
   symbol-at-reads.Learnt,
   both-reads.Asked,
@@ -874,7 +876,7 @@ fits-base-returns-6 t c =
     let ttable = a .ttable .now in
     let tn = a .tn in
     let sees = s .pre .1 .1 .1 in
-    let nested = sym (at-leaf .is-leaf .ensures) ∙ at-if4 .before .if3 .left in
+    let nested = sym (at-leaf .starts-leaf .ensures) ∙ at-if4 .before .if3 .left in
     let y = at-both .both .ensures .0 (not-false _ (c .before .if5 .left)) in
     let r = c .fits-each in (
       wider n (a .v) (a .v + 1) (r .result) (omega arith) (r .ensures .0),
@@ -1362,10 +1364,10 @@ pub +fits-array+fits-base+fits-each+fits-one-spec : {M : Type 1} → statement M
     (λ t. fits-base-lts.spec (
       fits-array-below t,
       fits-array.Post,
-      is-leaf-reads.Asked,
-      is-leaf-reads.Learnt,
-      fits-leaf-reads.Asked,
-      fits-leaf-reads.Learnt,
+      starts-leaf-reads.Asked,
+      starts-leaf-reads.Learnt,
+      fits-signed-reads.Asked,
+      fits-signed-reads.Learnt,
       symbol-at-reads.Asked,
       symbol-at-reads.Learnt,
       both-reads.Asked,
@@ -1380,8 +1382,8 @@ pub +fits-array+fits-base+fits-each+fits-one-spec : {M : Type 1} → statement M
     (fits-base-sub-fits-array t)
     (fits-base-fits-array-requires t)
     (fits-base-returns-2 t)
-    (fits-base-is-leaf-requires t)
-    (fits-base-fits-leaf-requires t)
+    (fits-base-starts-leaf-requires t)
+    (fits-base-fits-signed-requires t)
     (fits-base-returns-3 t)
     (fits-base-returns-4 t)
     (fits-base-symbol-at-requires t)

@@ -20,12 +20,13 @@ takes-requires c κs = search needs
 returns : tie.Need-returns
 returns c =
     let a = c .before .before .before .before .before .args in
-    leaf-not-taken (a .text .now) (a .table .now) (a .at) (a .kinds) (sym (c .before .takes .ensures) ∙ not-true _ (c .if1 .taken))
+    leaf-not-taken (a .text .now) (a .table .now) (a .at) (a .kinds) (a .negative) (sym (c .before .takes .ensures) ∙ not-true _ (c .if1 .taken))
 
 returns-2 : tie.Need-returns-2
 returns-2 c =
     let a = c .before .before .before .before .before .before .args in
-    leaf-taken (a .text .now) (a .table .now) (a .at) (a .kinds) (sym (c .before .before .takes .ensures) ∙ not-false _ (c .before .if1 .left)) (c .if2 .taken)
+    leaf-taken (a .text .now) (a .table .now) (a .at) (a .kinds) (a .negative)
+    (sym (c .before .before .takes .ensures) ∙ not-false _ (c .before .if1 .left)) (c .if2 .taken)
 
 add-size : tie.Need-add-size
 add-size c = search needs
@@ -81,7 +82,7 @@ returns-3 c =
     let taken = sym (at-if1 .before .takes .ensures) ∙ not-false _ (at-if1 .if1 .left) in
     let extent = at-size .before .before .if2 .left in
     c .is-extent .ensures
-    ∙ leaf-extent (a .text .now) (a .table .now) (a .at) (a .kinds) taken extent _ _ (at-size .size .ensures) (at-size2 .size2 .ensures)
+    ∙ leaf-extent (a .text .now) (a .table .now) (a .at) (a .kinds) (a .negative) taken extent _ _ (at-size .size .ensures) (at-size2 .size2 .ensures)
 
 pub leaf-fits-spec : {M : Type 1} → statement M
 leaf-fits-spec =

@@ -15,7 +15,7 @@ use Rattle.syntax.specs.Table.{toks, parsed}
 use Rattle.syntax.specs.Parser.{value as valueOf, values, commas, row}
 use Rattle.syntax.proofs.Rows.{comma-past, row-fell, row-last, row-next}
 use Rattle.syntax.proofs.Reached.{reached-place, reached-fault, reached-next}
-use Rattle.syntax.proofs.Values.{value-sound, tuple-is, at-close, at-items, leaf-stands, open-stands, at-leaf, at-not, at-full, at-array, at-tuple}
+use Rattle.syntax.proofs.Values.{value-sound, tuple-is, at-close, at-items, leaf-stands, open-stands, at-leaf, at-other, at-full, at-array, at-tuple}
 use Rattle.syntax.proofs.Symbols.{stands}
 use Rattle.syntax.proofs.Chain.{fell, went, onto, passes}
 use Rattle.syntax.proofs.value.array.Reads as array
@@ -35,7 +35,7 @@ use Rattle.syntax.proofs.value.bracket_at.Reads as bracket-at-reads
 use Rattle.syntax.proofs.value.expect_to.Reads as expect-to-reads
 use Rattle.syntax.proofs.value.is_leaf.Reads as is-leaf-reads
 use Rattle.syntax.proofs.value.opens_value.Reads as opens-value-reads
-use Rattle.syntax.proofs.value.syntax_at.Reads as syntax-at-reads
+use Rattle.syntax.proofs.value.negative.Reads as negative-reads
 use Rattle.syntax.proofs.value.then_to.Reads as then-to-reads
 use Rattle.syntax.proofs.value.+array+items_to+tuple+value_to.{statement}
 use Rattle.syntax.proofs.value.+array+items_to+tuple+value_to.Tie.{close}
@@ -445,8 +445,8 @@ value-to-is-leaf-requires : (t : ℕ) → value-to-lts.Need-is-leaf-requires (
   is-leaf-reads.Learnt,
   opens-value-reads.Asked,
   opens-value-reads.Learnt,
-  syntax-at-reads.Asked,
-  syntax-at-reads.Learnt,
+  negative-reads.Asked,
+  negative-reads.Learnt,
   bracket-at-reads.Asked,
   bracket-at-reads.Learnt,
   array-below t,
@@ -461,8 +461,8 @@ value-to-add-result : (t : ℕ) → value-to-lts.Need-add-result (
   is-leaf-reads.Learnt,
   opens-value-reads.Asked,
   opens-value-reads.Learnt,
-  syntax-at-reads.Asked,
-  syntax-at-reads.Learnt,
+  negative-reads.Asked,
+  negative-reads.Learnt,
   bracket-at-reads.Asked,
   bracket-at-reads.Learnt,
   array-below t,
@@ -482,8 +482,8 @@ value-to-returns : (t : ℕ) → value-to-lts.Need-returns (
   is-leaf-reads.Learnt,
   opens-value-reads.Asked,
   opens-value-reads.Learnt,
-  syntax-at-reads.Asked,
-  syntax-at-reads.Learnt,
+  negative-reads.Asked,
+  negative-reads.Learnt,
   bracket-at-reads.Asked,
   bracket-at-reads.Learnt,
   array-below t,
@@ -504,8 +504,8 @@ value-to-opens-value-requires : (t : ℕ) → value-to-lts.Need-opens-value-requ
   is-leaf-reads.Learnt,
   opens-value-reads.Asked,
   opens-value-reads.Learnt,
-  syntax-at-reads.Asked,
-  syntax-at-reads.Learnt,
+  negative-reads.Asked,
+  negative-reads.Learnt,
   bracket-at-reads.Asked,
   bracket-at-reads.Learnt,
   array-below t,
@@ -515,13 +515,13 @@ value-to-opens-value-requires : (t : ℕ) → value-to-lts.Need-opens-value-requ
 ) (value-to-at t) value-to.Post
 value-to-opens-value-requires t c κs = search needs
 
-value-to-syntax-at-requires : (t : ℕ) → value-to-lts.Need-syntax-at-requires (
+value-to-negative-requires : (t : ℕ) → value-to-lts.Need-negative-requires (
   is-leaf-reads.Asked,
   is-leaf-reads.Learnt,
   opens-value-reads.Asked,
   opens-value-reads.Learnt,
-  syntax-at-reads.Asked,
-  syntax-at-reads.Learnt,
+  negative-reads.Asked,
+  negative-reads.Learnt,
   bracket-at-reads.Asked,
   bracket-at-reads.Learnt,
   array-below t,
@@ -529,15 +529,15 @@ value-to-syntax-at-requires : (t : ℕ) → value-to-lts.Need-syntax-at-requires
   tuple-below t,
   tuple.Post,
 ) (value-to-at t) value-to.Post
-value-to-syntax-at-requires t c κs = search needs
+value-to-negative-requires t c κs = search needs
 
 value-to-returns-2 : (t : ℕ) → value-to-lts.Need-returns-2 (
   is-leaf-reads.Asked,
   is-leaf-reads.Learnt,
   opens-value-reads.Asked,
   opens-value-reads.Learnt,
-  syntax-at-reads.Asked,
-  syntax-at-reads.Learnt,
+  negative-reads.Asked,
+  negative-reads.Learnt,
   bracket-at-reads.Asked,
   bracket-at-reads.Learnt,
   array-below t,
@@ -551,15 +551,15 @@ value-to-returns-2 t c =
     let x = s .pre .1 .1 .1 in
     let f = sym (c .before .before .before .before .is-leaf .ensures) ∙ c .before .before .before .if1 .left in
     let o = sym (c .before .before .opens-value .ensures) ∙ not-true _ (c .before .if2 .taken) in
-    at-not (a .text .now) (a .table .now) (length (a .text .now)) (a .n) (a .at) x (leavesOf (a .leaves)) (a .room) f o (c .syntax-at .ensures)
+    at-other (a .text .now) (a .table .now) (length (a .text .now)) (a .n) (a .at) x (leavesOf (a .leaves)) (a .room) f o (c .negative .ensures)
 
 value-to-bracket-at-requires : (t : ℕ) → value-to-lts.Need-bracket-at-requires (
   is-leaf-reads.Asked,
   is-leaf-reads.Learnt,
   opens-value-reads.Asked,
   opens-value-reads.Learnt,
-  syntax-at-reads.Asked,
-  syntax-at-reads.Learnt,
+  negative-reads.Asked,
+  negative-reads.Learnt,
   bracket-at-reads.Asked,
   bracket-at-reads.Learnt,
   array-below t,
@@ -574,8 +574,8 @@ value-to-returns-3 : (t : ℕ) → value-to-lts.Need-returns-3 (
   is-leaf-reads.Learnt,
   opens-value-reads.Asked,
   opens-value-reads.Learnt,
-  syntax-at-reads.Asked,
-  syntax-at-reads.Learnt,
+  negative-reads.Asked,
+  negative-reads.Learnt,
   bracket-at-reads.Asked,
   bracket-at-reads.Learnt,
   array-below t,
@@ -597,8 +597,8 @@ value-to-add-array : (t : ℕ) → value-to-lts.Need-add-array (
   is-leaf-reads.Learnt,
   opens-value-reads.Asked,
   opens-value-reads.Learnt,
-  syntax-at-reads.Asked,
-  syntax-at-reads.Learnt,
+  negative-reads.Asked,
+  negative-reads.Learnt,
   bracket-at-reads.Asked,
   bracket-at-reads.Learnt,
   array-below t,
@@ -618,8 +618,8 @@ value-to-sub-array : (t : ℕ) → value-to-lts.Need-sub-array (
   is-leaf-reads.Learnt,
   opens-value-reads.Asked,
   opens-value-reads.Learnt,
-  syntax-at-reads.Asked,
-  syntax-at-reads.Learnt,
+  negative-reads.Asked,
+  negative-reads.Learnt,
   bracket-at-reads.Asked,
   bracket-at-reads.Learnt,
   array-below t,
@@ -634,8 +634,8 @@ value-to-array-requires : (t : ℕ) → value-to-lts.Need-array-requires (
   is-leaf-reads.Learnt,
   opens-value-reads.Asked,
   opens-value-reads.Learnt,
-  syntax-at-reads.Asked,
-  syntax-at-reads.Learnt,
+  negative-reads.Asked,
+  negative-reads.Learnt,
   bracket-at-reads.Asked,
   bracket-at-reads.Learnt,
   array-below t,
@@ -655,8 +655,8 @@ value-to-returns-4 : (t : ℕ) → value-to-lts.Need-returns-4 (
   is-leaf-reads.Learnt,
   opens-value-reads.Asked,
   opens-value-reads.Learnt,
-  syntax-at-reads.Asked,
-  syntax-at-reads.Learnt,
+  negative-reads.Asked,
+  negative-reads.Learnt,
   bracket-at-reads.Asked,
   bracket-at-reads.Learnt,
   array-below t,
@@ -678,8 +678,8 @@ value-to-add-tuple : (t : ℕ) → value-to-lts.Need-add-tuple (
   is-leaf-reads.Learnt,
   opens-value-reads.Asked,
   opens-value-reads.Learnt,
-  syntax-at-reads.Asked,
-  syntax-at-reads.Learnt,
+  negative-reads.Asked,
+  negative-reads.Learnt,
   bracket-at-reads.Asked,
   bracket-at-reads.Learnt,
   array-below t,
@@ -699,8 +699,8 @@ value-to-sub-tuple : (t : ℕ) → value-to-lts.Need-sub-tuple (
   is-leaf-reads.Learnt,
   opens-value-reads.Asked,
   opens-value-reads.Learnt,
-  syntax-at-reads.Asked,
-  syntax-at-reads.Learnt,
+  negative-reads.Asked,
+  negative-reads.Learnt,
   bracket-at-reads.Asked,
   bracket-at-reads.Learnt,
   array-below t,
@@ -715,8 +715,8 @@ value-to-tuple-requires : (t : ℕ) → value-to-lts.Need-tuple-requires (
   is-leaf-reads.Learnt,
   opens-value-reads.Asked,
   opens-value-reads.Learnt,
-  syntax-at-reads.Asked,
-  syntax-at-reads.Learnt,
+  negative-reads.Asked,
+  negative-reads.Learnt,
   bracket-at-reads.Asked,
   bracket-at-reads.Learnt,
   array-below t,
@@ -736,8 +736,8 @@ value-to-returns-5 : (t : ℕ) → value-to-lts.Need-returns-5 (
   is-leaf-reads.Learnt,
   opens-value-reads.Asked,
   opens-value-reads.Learnt,
-  syntax-at-reads.Asked,
-  syntax-at-reads.Learnt,
+  negative-reads.Asked,
+  negative-reads.Learnt,
   bracket-at-reads.Asked,
   bracket-at-reads.Learnt,
   array-below t,
@@ -818,8 +818,8 @@ pub +array+items-to+tuple+value-to-spec : {M : Type 1} → statement M
       is-leaf-reads.Learnt,
       opens-value-reads.Asked,
       opens-value-reads.Learnt,
-      syntax-at-reads.Asked,
-      syntax-at-reads.Learnt,
+      negative-reads.Asked,
+      negative-reads.Learnt,
       bracket-at-reads.Asked,
       bracket-at-reads.Learnt,
       array-below t,
@@ -833,7 +833,7 @@ pub +array+items-to+tuple+value-to-spec : {M : Type 1} → statement M
     (value-to-add-result t)
     (value-to-returns t)
     (value-to-opens-value-requires t)
-    (value-to-syntax-at-requires t)
+    (value-to-negative-requires t)
     (value-to-returns-2 t)
     (value-to-bracket-at-requires t)
     (value-to-returns-3 t)

@@ -12,7 +12,7 @@ fault-at-requires c κs = search needs
 returns : tie.Need-returns
 returns c =
     let a = c .before .before .before .before .args in
-    items-none (a .text .now) (a .table .now) (a .n) (a .at) (c .before .if1 .taken) (leavesOf (a .leaves)) (a .room) (a .close) (c .fault-at .ensures)
+    items-none (a .text .now) (a .table .now) (a .n) (a .at) (c .before .if1 .taken) (leavesOf (a .leaves)) (a .room) (c .fault-at .ensures) (a .close)
 
 items-to-requires : tie.Need-items-to-requires
 items-to-requires c κs = search needs

@@ -1,10 +1,9 @@
--- `value::value` meets its contract. Where a bracket is seen, a token stands, so the place is one of the table. Assumes nothing.
+-- `value::value` meets its contract. Assumes nothing.
 use mathlib.Core.Path.{sym, _∙_}
 use native.Mathlib.Omega.{arith}
 use lib.ListN.{length}
-use borrow.Author.Tests.{not-true, not-false}
 use Rattle.syntax.specs.Inner.{leavesOf}
-use Rattle.syntax.proofs.Values.{leaf-stands, open-stands, at-leaf, at-not}
+use Rattle.syntax.proofs.Values.{leaf-stands, at-leaf, value-none}
 use borrow.Author.Needs.{needs}
 use Rattle.syntax.proofs.value.value.Statement.{statement}
 use Rattle.syntax.proofs.value.value.Tie as tie
@@ -28,28 +27,19 @@ returns c =
     at-leaf (a .text .now) (a .table .now) (length (a .text .now)) (a .n) (a .at) (c .before .before .symbol-at .ensures) (leavesOf (a .leaves)) (a .room)
     (sym (c .before .is-leaf .ensures) ∙ c .if1 .taken)
 
-opens-value-requires : tie.Need-opens-value-requires
-opens-value-requires c κs = search needs
-
 fault-at-requires : tie.Need-fault-at-requires
 fault-at-requires c κs = search needs
 
 returns-2 : tie.Need-returns-2
 returns-2 c =
-    let a = c .before .before .before .before .before .before .before .before .args in
-    let x = c .before .before .before .before .before .symbol-at .ensures in
-    let f = sym (c .before .before .before .before .is-leaf .ensures) ∙ c .before .before .before .if1 .left in
-    let o = sym (c .before .before .opens-value .ensures) ∙ not-true _ (c .before .if2 .taken) in
-    at-not (a .text .now) (a .table .now) (length (a .text .now)) (a .n) (a .at) x (leavesOf (a .leaves)) (a .room) f o (c .fault-at .ensures)
+    let a = c .before .before .before .before .before .before .before .args in
+    let h = c .before .if2 .taken in
+    value-none (a .text .now) (a .table .now) (a .n) (a .at) (omega (arith, h)) (leavesOf (a .leaves)) (a .room) (c .fault-at .ensures)
 
 value-to-requires : tie.Need-value-to-requires
 value-to-requires c κs =
-    let s = c .before .before .before .before .before .before .before in
-    let a = s .args in
-    let o = sym (c .before .opens-value .ensures) ∙ not-false _ (c .if2 .left) in
-    let x = c .before .before .before .before .symbol-at .ensures in
-    let h = open-stands (a .text .now) (a .table .now) 0 (a .n) (a .at) x o in
-    (s .pre, (omega (arith, h), x))
+    let s = c .before .before .before .before .before .before in
+    (s .pre, (omega (arith, c .if2 .left), c .before .before .before .symbol-at .ensures))
 
 parsed-of-requires : tie.Need-parsed-of-requires
 parsed-of-requires c κs = search needs
@@ -65,7 +55,6 @@ value-spec =
     is-leaf-requires
     add-t9
     returns
-    opens-value-requires
     fault-at-requires
     returns-2
     value-to-requires

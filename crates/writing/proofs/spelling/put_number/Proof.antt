@@ -11,8 +11,8 @@ reduce-requires c κs = search needs
 enum-known-mantissa : tie.Need-enum-known-mantissa
 enum-known-mantissa c = search needs
 
-put-reduced-requires : tie.Need-put-reduced-requires
-put-reduced-requires c κs =
+put-signed-requires : tie.Need-put-signed-requires
+put-signed-requires c κs =
     let w = c .before .before .before .before .before .before .before .args .word .now in
     let near = reduced-near w (sym (c .before .before .before .before .reduce .ensures) ∙ c .before .before .mantissa .given .1) in
     rw (held-is _ near) near
@@ -24,12 +24,12 @@ same-length : tie.Need-same-length
 same-length c = search needs
 
 returns : tie.Need-returns
-returns c ok k =
+returns c ok =
     let w = c .before .before .before .before .before .before .before .before .before .before .args .word .now in
     rw
     (reduced-is w
     (sym (c .before .before .before .before .before .before .before .reduce .ensures) ∙ c .before .before .before .before .before .mantissa .given .1))
-    (c .before .before .put-reduced .ensures k)
+    (c .before .before .put-signed .ensures)
 
 returns-2 : tie.Need-returns-2
 returns-2 c ok =
@@ -37,4 +37,4 @@ returns-2 c ok =
     absurd (reduced-some w ok (sym (c .before .before .reduce .ensures) ∙ c .enum-told .given .1))
 
 pub put-number-spec : {M : Type 1} → statement M
-put-number-spec = tie.close (tie.spec reduce-requires enum-known-mantissa put-reduced-requires enum-told same-length returns returns-2)
+put-number-spec = tie.close (tie.spec reduce-requires enum-known-mantissa put-signed-requires enum-told same-length returns returns-2)

@@ -11,7 +11,7 @@ use Rattle.syntax.specs.Table.{toks}
 use Rattle.syntax.proofs.Symbols.{stands}
 use Rattle.writing.specs.declared.value.Put.{Put}
 use Rattle.writing.specs.Writing.{PutsArray, PutsTuple}
-use Rattle.writing.proofs.ValuePuts.{opens-is, opens-not, array-flat, array-deep, tuple-each, no-type-there, no-value-there, leaf-there}
+use Rattle.writing.proofs.ValuePuts.{opens-is, opens-not, array-flat, array-deep, tuple-each, no-type-there, leaf-there}
 use Rattle.writing.proofs.ValuePuts.{PutsRow, row-last, row-next, row-neither}
 use Rattle.writing.proofs.ValuePuts.{AllRead, array-empty, array-some, array-begun, EachRead, tuple-row, tuple-begun}
 use borrow.Author.Needs.{needs}
@@ -31,7 +31,7 @@ use Rattle.writing.proofs.value.put_tuple.Kinds as put-tuple-kinds
 use Rattle.writing.proofs.value.+put_array+put_base+put_nested+put_tuple.Lts-put_tuple as put-tuple-lts
 use Rattle.writing.proofs.place.put_mark.Reads as put-mark-reads
 use Rattle.writing.proofs.value.opens.Reads as opens-reads
-use Rattle.writing.proofs.value.put_leaf.Reads as put-leaf-reads
+use Rattle.writing.proofs.value.put_plain.Reads as put-plain-reads
 use Rattle.lists.proofs.fitting.shape_at.Reads as shape-at-reads
 use Rattle.syntax.proofs.symbol.symbol_at.Reads as symbol-at-reads
 use Rattle.writing.proofs.value.+put_array+put_base+put_nested+put_tuple.{statement}
@@ -373,8 +373,8 @@ put-base-symbol-at-requires : (t : ℕ) → put-base-lts.Need-symbol-at-requires
   opens-reads.Learnt,
   put-nested-below t,
   put-nested.Post,
-  put-leaf-reads.Asked,
-  put-leaf-reads.Learnt,
+  put-plain-reads.Asked,
+  put-plain-reads.Learnt,
 ) (put-base-at t) put-base.Post
 put-base-symbol-at-requires t c κs = search needs
 
@@ -385,8 +385,8 @@ put-base-opens-requires : (t : ℕ) → put-base-lts.Need-opens-requires (
   opens-reads.Learnt,
   put-nested-below t,
   put-nested.Post,
-  put-leaf-reads.Asked,
-  put-leaf-reads.Learnt,
+  put-plain-reads.Asked,
+  put-plain-reads.Learnt,
 ) (put-base-at t) put-base.Post
 put-base-opens-requires t c κs = search needs
 
@@ -397,8 +397,8 @@ put-base-put-nested-requires : (t : ℕ) → put-base-lts.Need-put-nested-requir
   opens-reads.Learnt,
   put-nested-below t,
   put-nested.Post,
-  put-leaf-reads.Asked,
-  put-leaf-reads.Learnt,
+  put-plain-reads.Asked,
+  put-plain-reads.Learnt,
 ) (put-base-at t) put-base.Post
 put-base-put-nested-requires t c κs =
     let at-if1 = c .before in
@@ -427,8 +427,8 @@ put-base-same-length : (t : ℕ) → put-base-lts.Need-same-length (
   opens-reads.Learnt,
   put-nested-below t,
   put-nested.Post,
-  put-leaf-reads.Asked,
-  put-leaf-reads.Learnt,
+  put-plain-reads.Asked,
+  put-plain-reads.Learnt,
 ) (put-base-at t) put-base.Post
 put-base-same-length t c = search needs
 
@@ -439,35 +439,12 @@ put-base-returns : (t : ℕ) → put-base-lts.Need-returns (
   opens-reads.Learnt,
   put-nested-below t,
   put-nested.Post,
-  put-leaf-reads.Asked,
-  put-leaf-reads.Learnt,
+  put-plain-reads.Asked,
+  put-plain-reads.Learnt,
 ) (put-base-at t) put-base.Post
 put-base-returns t c =
     let at-put-nested = c .before .before in
     at-put-nested .put-nested .ensures
-
-put-base-returns-2 : (t : ℕ) → put-base-lts.Need-returns-2 (
-  symbol-at-reads.Asked,
-  symbol-at-reads.Learnt,
-  opens-reads.Asked,
-  opens-reads.Learnt,
-  put-nested-below t,
-  put-nested.Post,
-  put-leaf-reads.Asked,
-  put-leaf-reads.Learnt,
-) (put-base-at t) put-base.Post
-put-base-returns-2 t c =
-    let at-if1 = c .before in
-    let at-opens = at-if1 .before in
-    let at-symbol-at = at-opens .before in
-    let s = at-symbol-at .before .before .before .before .before .before in
-    let a = s .args in
-    let d = at-symbol-at .symbol-at in
-    let n = opens-not (d .result) (sym (at-opens .opens .ensures) ∙ at-if1 .if1 .left) in (
-      (omega arith, s .pre .1 .1 .1 .1),
-      no-value-there (a .vtext .now) (a .vtable .now) (a .vn) (a .v) (a .ttext .now) (a .ttable .now) (a .tn) (a .t) (a .k)
-          (d .result) (d .ensures) (n .0) (n .1) (a .out .now) (a .out .now) (a .s) (record { place = a .s; next = a .v }) (c .if2 .taken),
-    )
 
 put-base-symbol-at-requires-2 : (t : ℕ) → put-base-lts.Need-symbol-at-requires-2 (
   symbol-at-reads.Asked,
@@ -476,34 +453,22 @@ put-base-symbol-at-requires-2 : (t : ℕ) → put-base-lts.Need-symbol-at-requir
   opens-reads.Learnt,
   put-nested-below t,
   put-nested.Post,
-  put-leaf-reads.Asked,
-  put-leaf-reads.Learnt,
+  put-plain-reads.Asked,
+  put-plain-reads.Learnt,
 ) (put-base-at t) put-base.Post
 put-base-symbol-at-requires-2 t c κs = search needs
 
-put-base-put-leaf-requires : (t : ℕ) → put-base-lts.Need-put-leaf-requires (
+put-base-put-plain-requires : (t : ℕ) → put-base-lts.Need-put-plain-requires (
   symbol-at-reads.Asked,
   symbol-at-reads.Learnt,
   opens-reads.Asked,
   opens-reads.Learnt,
   put-nested-below t,
   put-nested.Post,
-  put-leaf-reads.Asked,
-  put-leaf-reads.Learnt,
+  put-plain-reads.Asked,
+  put-plain-reads.Learnt,
 ) (put-base-at t) put-base.Post
-put-base-put-leaf-requires t c κs = search needs
-
-put-base-add-t22 : (t : ℕ) → put-base-lts.Need-add-t22 (
-  symbol-at-reads.Asked,
-  symbol-at-reads.Learnt,
-  opens-reads.Asked,
-  opens-reads.Learnt,
-  put-nested-below t,
-  put-nested.Post,
-  put-leaf-reads.Asked,
-  put-leaf-reads.Learnt,
-) (put-base-at t) put-base.Post
-put-base-add-t22 t c = search needs
+put-base-put-plain-requires t c κs = search needs
 
 put-base-same-length-2 : (t : ℕ) → put-base-lts.Need-same-length-2 (
   symbol-at-reads.Asked,
@@ -512,26 +477,25 @@ put-base-same-length-2 : (t : ℕ) → put-base-lts.Need-same-length-2 (
   opens-reads.Learnt,
   put-nested-below t,
   put-nested.Post,
-  put-leaf-reads.Asked,
-  put-leaf-reads.Learnt,
+  put-plain-reads.Asked,
+  put-plain-reads.Learnt,
 ) (put-base-at t) put-base.Post
 put-base-same-length-2 t c = search needs
 
-put-base-returns-3 : (t : ℕ) → put-base-lts.Need-returns-3 (
+put-base-returns-2 : (t : ℕ) → put-base-lts.Need-returns-2 (
   symbol-at-reads.Asked,
   symbol-at-reads.Learnt,
   opens-reads.Asked,
   opens-reads.Learnt,
   put-nested-below t,
   put-nested.Post,
-  put-leaf-reads.Asked,
-  put-leaf-reads.Learnt,
+  put-plain-reads.Asked,
+  put-plain-reads.Learnt,
 ) (put-base-at t) put-base.Post
-put-base-returns-3 t c =
-    let at-put-leaf = c .before .before in
-    let at-symbol-at2 = at-put-leaf .before .before in
-    let at-if2 = at-symbol-at2 .before in
-    let at-if1 = at-if2 .before in
+put-base-returns-2 t c =
+    let at-put-plain = c .before .before in
+    let at-symbol-at2 = at-put-plain .before .before in
+    let at-if1 = at-symbol-at2 .before in
     let at-opens = at-if1 .before in
     let at-symbol-at = at-opens .before in
     let at-shared-slice-known = at-symbol-at .before .before .before .before in
@@ -539,12 +503,12 @@ put-base-returns-3 t c =
     let a = s .args in
     let d = at-symbol-at .symbol-at in
     let e = at-symbol-at2 .symbol-at2 in
-    let p = at-put-leaf .put-leaf in
+    let p = at-put-plain .put-plain in
     let n = opens-not (d .result) (sym (at-opens .opens .ensures) ∙ at-if1 .if1 .left) in (
-      (omega arith, omega (arith, at-if2 .if2 .left)),
-      leaf-there (a .vtext .now) (a .vtable .now) (a .vn) (a .v) (a .ttext .now) (a .ttable .now) (a .tn) (a .t) (a .k) (d .result) (d .ensures) (n .0)
-          (n .1) (p .result) (e .result) (omega (arith, at-if2 .if2 .left))
-          (λ j. omega (arith, at-shared-slice-known .shared-slice-known .given j)) (s .pre .1 .0) (e .ensures) (p .ensures),
+      p .ensures .0,
+      leaf-there (a .vtext .now) (a .vtable .now) (a .vn) (a .v) (a .ttext .now) (a .ttable .now) (a .tn) (a .t) (a .k) (d .result) (d .ensures)
+          (p .result) (e .result) (n .0) (n .1) (λ j. omega (arith, at-shared-slice-known .shared-slice-known .given j)) (s .pre .1 .0) (e .ensures)
+          (p .ensures .1),
     )
 
 put-nested-returns : (t : ℕ) → put-nested-lts.Need-returns (
@@ -1079,8 +1043,8 @@ pub +put-array+put-base+put-nested+put-tuple-spec : {M : Type 1} → statement M
       opens-reads.Learnt,
       put-nested-below t,
       put-nested.Post,
-      put-leaf-reads.Asked,
-      put-leaf-reads.Learnt,
+      put-plain-reads.Asked,
+      put-plain-reads.Learnt,
     )
     (put-base-at t)
     put-base.Post
@@ -1089,12 +1053,10 @@ pub +put-array+put-base+put-nested+put-tuple-spec : {M : Type 1} → statement M
     (put-base-put-nested-requires t)
     (put-base-same-length t)
     (put-base-returns t)
-    (put-base-returns-2 t)
     (put-base-symbol-at-requires-2 t)
-    (put-base-put-leaf-requires t)
-    (put-base-add-t22 t)
+    (put-base-put-plain-requires t)
     (put-base-same-length-2 t)
-    (put-base-returns-3 t))
+    (put-base-returns-2 t))
     (λ t. put-nested-lts.spec (
       put-mark-reads.Asked,
       put-mark-reads.Learnt,

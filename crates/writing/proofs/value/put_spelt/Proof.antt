@@ -17,7 +17,7 @@ returns c t u v ek eb is e =
     let at-if1 = at-put-word .before .before in
     let entry = at-if1 .before .before .before in
     let a = entry .args in
-    puts-name (a .kind) (a .word .now) t is ek eb e (at-if1 .if1 .taken) (at-put-word .put-word .ensures)
+    puts-name (a .negative) (a .kind) (a .word .now) t is ek eb e (at-if1 .if1 .taken) (at-put-word .put-word .ensures)
 
 put-string-requires : tie.Need-put-string-requires
 put-string-requires c κs = search needs
@@ -31,7 +31,7 @@ returns-2 c t u v ek eb is e =
     let at-if2 = at-put-string .before .before in
     let entry = at-if2 .before .before .before .before in
     let a = entry .args in
-    puts-string (a .kind) (a .word .now) t is ek eb e (at-if2 .if2 .taken) (at-put-string .put-string .ensures)
+    puts-string (a .negative) (a .kind) (a .word .now) t is ek eb e (at-if2 .if2 .taken) (at-put-string .put-string .ensures)
 
 put-truth-requires : tie.Need-put-truth-requires
 put-truth-requires c κs = search needs
@@ -45,7 +45,7 @@ returns-3 c t u v ek eb is e =
     let at-if3 = at-put-truth .before .before in
     let entry = at-if3 .before .before .before .before .before in
     let a = entry .args in
-    puts-truth (a .kind) (a .word .now) t is ek eb e (at-if3 .if3 .taken) (at-put-truth .put-truth .ensures)
+    puts-truth (a .negative) (a .kind) (a .word .now) t is ek eb e (at-if3 .if3 .taken) (at-put-truth .put-truth .ensures)
 
 put-extent-requires : tie.Need-put-extent-requires
 put-extent-requires c κs = search needs
@@ -60,7 +60,7 @@ returns-4 c t u v ek eb is e =
     let at-if1 = at-if4 .before .before .before in
     let entry = at-if1 .before .before .before in
     let a = entry .args in
-    puts-extent (a .kind) (a .word .now) t is ek eb e (at-if1 .if1 .left) (at-if4 .if4 .taken)
+    puts-extent (a .negative) (a .kind) (a .word .now) t is ek eb e (at-if1 .if1 .left) (at-if4 .if4 .taken)
     (λ w. at-put-extent .put-extent .ensures (entry .pre .1 .whole w))
 
 returns-5 : tie.Need-returns-5
@@ -71,7 +71,7 @@ returns-5 c t u v ek eb is e =
     let at-if1 = at-if2 .before in
     let entry = at-if1 .before .before .before in
     let a = entry .args in
-    let n = a-number (a .kind) (a .word .now) t is ek eb e (at-if1 .if1 .left) (at-if2 .if2 .left) (at-if3 .if3 .left) (at-if4 .if4 .left) in
+    let n = a-number (a .negative) (a .kind) (a .word .now) t is ek eb e (at-if1 .if1 .left) (at-if2 .if2 .left) (at-if3 .if3 .left) (at-if4 .if4 .left) in
     absurd (omega (arith, entry .pre .1 .number (n .0) .1, c .if5 .taken))
 
 put-number-requires : tie.Need-put-number-requires
@@ -89,7 +89,7 @@ returns-6 c t u v ek eb is e =
     let at-if1 = at-if2 .before in
     let entry = at-if1 .before .before .before in
     let a = entry .args in
-    puts-number (a .kind) (a .word .now) t is ek eb e (at-if1 .if1 .left) (at-if2 .if2 .left) (at-if3 .if3 .left) (at-if4 .if4 .left)
+    puts-number (a .negative) (a .kind) (a .word .now) t is ek eb e (at-if1 .if1 .left) (at-if2 .if2 .left) (at-if3 .if3 .left) (at-if4 .if4 .left)
     (λ n. at-put-number .put-number .ensures (entry .pre .1 .number n .0))
 
 pub put-spelt-spec : {M : Type 1} → statement M

@@ -4,17 +4,16 @@ use Prim.Native.Nat.{ℕ, _+_, _-_, _*_, _≤_}
 use native.Mathlib.Omega.{arith}
 use lib.ListN.{length, drop, getD}
 use borrow.Author.Needs.{needs}
-use Rattle.lexis.specs.Sizes.{maxExtent}
 use Rattle.lexis.specs.Number.{valueFrom}
 use Rattle.lists.proofs.Extents.{value-step, too-large, all-read}
-use Rattle.lists.proofs.fitting.is_small.Statement.{statement}
-use Rattle.lists.proofs.fitting.is_small.Tie as tie
+use Rattle.lists.proofs.fitting.is_at_most.Statement.{statement}
+use Rattle.lists.proofs.fitting.is_at_most.Tie as tie
 
 abbrev Inv-loop : tie.InvT-loop
-Inv-loop w v₀ i₀ v i = (v ≤ maxExtent) × (valueFrom 0 w ≡ valueFrom v (drop i w))
+Inv-loop w bound v₀ i₀ v i = (v ≤ bound) × (valueFrom 0 w ≡ valueFrom v (drop i w))
 
 abbrev μ-loop : tie.MeasureT-loop
-μ-loop w v₀ i₀ v i = length w - i
+μ-loop w bound v₀ i₀ v i = length w - i
 
 loop-holds : tie.Need-loop-holds Inv-loop μ-loop
 loop-holds c = (omega arith, refl)
@@ -38,7 +37,7 @@ returns c =
     let w = at-test .before .before .before .args .w .now in
     let d = c .before .digit in
     let v : l .v * 10 + d .result ≡ l .v * 10 + (getD w (l .i) 0 - 48) = omega (arith, d .ensures .1) in
-    rw (l .inv .1, value-step w (l .i) (l .v) (at-test .loop-test .taken)) (too-large _ (drop (l .i + 1) w) (omega (arith, v, c .if1 .taken)))
+    rw (l .inv .1, value-step w (l .i) (l .v) (at-test .loop-test .taken)) (too-large _ _ (drop (l .i + 1) w) (omega (arith, v, c .if1 .taken)))
 
 add-i : tie.Need-add-i Inv-loop μ-loop
 add-i c = search needs
@@ -60,10 +59,10 @@ returns-2 : tie.Need-returns-2 Inv-loop μ-loop
 returns-2 c =
     let s = c .before .before .before in
     let l = c .before .loop in
-    rw (l .inv .1) (all-read (s .args .w .now) (l .i) (l .v) (c .loop-test .left) (l .inv .0))
+    rw (l .inv .1) (all-read (s .args .w .now) (l .i) (l .v) _ (c .loop-test .left) (l .inv .0))
 
-pub is-small-spec : {M : Type 1} → statement M
-is-small-spec =
+pub is-at-most-spec : {M : Type 1} → statement M
+is-at-most-spec =
     tie.close
     (tie.spec
     Inv-loop
