@@ -58,6 +58,14 @@ pub fn inputs() -> Vec<Input> {
             one_array("scalar", 240, long_number),
         ),
         input("1900 short reals", one_array("scalar", 1900, short_real)),
+        input(
+            "1300 negative extents",
+            one_array("extent", 1300, negative_extent),
+        ),
+        input(
+            "1300 negative reals",
+            one_array("scalar", 1300, negative_real),
+        ),
         input("comments and blanks", comments_and_blanks()),
         input("31 defaults a call", many_defaults()),
         input("28 headers of 32 parameters", many_parameters()),
@@ -374,6 +382,14 @@ fn long_number(place: usize) -> String {
 
 fn short_real(place: usize) -> String {
     format!("{}.{:02}", place % 10, place * 7 % 100)
+}
+
+fn negative_extent(place: usize) -> String {
+    format!("-{}", extent(place))
+}
+
+fn negative_real(place: usize) -> String {
+    format!("-{}", short_real(place))
 }
 
 /// Few calls among comments, blanks and empty lines.

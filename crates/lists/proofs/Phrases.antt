@@ -19,6 +19,7 @@ use Rattle.syntax.specs.Grammar.IsResult.{a-result}
 use Rattle.syntax.specs.Parser.{Parse, then, row, plain, commas, value, dims, tupleTypes, baseStep, type, result, left}
 use Rattle.syntax.specs.Parser.Parse.{ok, bad}
 use Rattle.syntax.proofs.Row.{cond-has}
+use Rattle.syntax.proofs.Symbols.{end-not}
 use Rattle.syntax.proofs.Shrinks.{result-shrinks}
 use Rattle.syntax.proofs.Right.{Phrase, Right, choice}
 use Rattle.syntax.proofs.Right.Right.{good}
@@ -53,7 +54,7 @@ data Stops : Parse Ty → Type 0 where
   faults : {c : ℕ} {us : List Token} → Stops (bad c us)
 
 end-no-pair : NoPair []
-end-no-pair z = let y : _≡_ {A = ℕ} 268 91 = z in absurd (omega arith)
+end-no-pair z = end-not leftSquare (omega arith) z
 
 dims-stops : (may : Bool) (u : Ty) (ts : List Token) → Stops (dims may u ts)
 unfolding dims

@@ -279,8 +279,8 @@ fn fits_array(
     let mut i = v;
     loop {
         let c = symbol_at(vtext, vtable, vn, i);
-        let next = if is_leaf(c) {
-            fits_leaf(vtext, vtable, vn, i, kinds, k, false)
+        let next = if starts_leaf(c) {
+            fits_signed(vtext, vtable, vn, i, c, kinds, k)
         } else {
             fits_base(vtext, vtable, vn, i, c, ttext, ttable, tn, t, kinds, k)
         };

@@ -62,6 +62,10 @@ module _ (text table : List ℕ) (n i : ℕ) where
 
 -- ---- one terminal
 
+-- the number that stands for the end is above every terminal
+pub end-not : (s : ℕ) → s < theEnd → theEnd ≡ s → ⊥
+end-not s l h = omega arith
+
 -- what follows an opening bracket
 abbrev pub begun : {A : Type 0} → (Token → Reader A) → Reader A
 begun opened [] = bad 9 []

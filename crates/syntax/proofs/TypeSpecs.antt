@@ -24,7 +24,7 @@ use Rattle.syntax.proofs.Shrinks.{type-shrinks}
 use Rattle.syntax.proofs.Tails.{expect-tails, type-tails, base-tails}
 use Rattle.syntax.proofs.Table.{toks-rest}
 use Rattle.syntax.proofs.Chain.{clash, chain, mapped-same}
-use Rattle.syntax.proofs.Symbols.{begun, stands-by, one-more, none-more}
+use Rattle.syntax.proofs.Symbols.{begun, end-not, stands-by, one-more, none-more}
 use Rattle.syntax.proofs.Rows.{Sound}
 
 pub type-sound : (b : ℕ) → Sound (type b)
@@ -81,7 +81,7 @@ module _ (e n : ℕ) (opened : Token → Reader Ty) where
 
   base-open : (ts : List Token) → lookahead ts ≡ leftRound → parsed e n (baseStep opened ts) ≡ parsed e n (begun opened ts)
   unfolding baseStep
-  base-open [] h = let x : _≡_ {A = ℕ} 268 40 = h in absurd (omega arith)
+  base-open [] h = absurd (end-not leftRound (omega arith) h)
   base-open (t ∷ us) h = simp (eq-eqb (symOf t) leftRound h)
 
 module _ (e n : ℕ) (ts : List Token) where
@@ -96,7 +96,7 @@ module _ (e n : ℕ) (ts : List Token) where
   base-is-not (suc b) h z = base-not e n _ ts h z
 
 full-by : (e n : ℕ) (ts : List Token) → lookahead ts ≡ leftRound → parsed {A = Ty} e n (begun (λ t us. bad 10 (t ∷ us)) ts) ≡ Fault 10 (placeOf e ts)
-full-by e n [] h = let x : _≡_ {A = ℕ} 268 40 = h in absurd (omega arith)
+full-by e n [] h = absurd (end-not leftRound (omega arith) h)
 full-by e n (t ∷ us) h = refl
 
 base-is-full : (e n b : ℕ) (ts : List Token) → lookahead ts ≡ leftRound → b ≡ 0 → parsed e n (baseOf b ts) ≡ Fault 10 (placeOf e ts)
@@ -105,7 +105,7 @@ base-is-full e n b ts h z = ap (λ (k : ℕ). parsed e n (baseOf k ts)) z ∙ (b
 
 tuple-by : (e n b : ℕ) (ts : List Token) → lookahead ts ≡ leftRound
     → parsed e n (begun (λ t us. tupleTypes (type b) us) ts) ≡ parsed e n (tupleTypes (type b) (rest ts))
-tuple-by e n b [] h = let x : _≡_ {A = ℕ} 268 40 = h in absurd (omega arith)
+tuple-by e n b [] h = absurd (end-not leftRound (omega arith) h)
 tuple-by e n b (t ∷ us) h = refl
 
 base-is-tuple : (e n b : ℕ) (ts : List Token) → lookahead ts ≡ leftRound → (b ≡ 0 → ⊥)
@@ -147,20 +147,20 @@ dims-stop may u (o ∷ c ∷ ts) h = simp (ne-eqb (symOf o) leftSquare h)
 
 dims-full : (u : Ty) (ts : List Token) → lookahead ts ≡ leftSquare → dims false u ts ≡ bad 10 ts
 unfolding dims
-dims-full u [] h = let x : _≡_ {A = ℕ} 268 91 = h in absurd (omega arith)
+dims-full u [] h = absurd (end-not leftSquare (omega arith) h)
 dims-full u (o ∷ []) h = simp (eq-eqb (symOf o) leftSquare h)
 dims-full u (o ∷ c ∷ ts) h = simp (eq-eqb (symOf o) leftSquare h)
 
 dims-half : (u : Ty) (ts : List Token) → lookahead ts ≡ leftSquare → (lookahead (rest ts) ≡ rightSquare → ⊥) → dims true u ts ≡ bad 9 (rest ts)
 unfolding dims
-dims-half u [] h k = let x : _≡_ {A = ℕ} 268 91 = h in absurd (omega arith)
+dims-half u [] h k = absurd (end-not leftSquare (omega arith) h)
 dims-half u (o ∷ []) h k = simp (eq-eqb (symOf o) leftSquare h)
 dims-half u (o ∷ c ∷ ts) h k = simp (eq-eqb (symOf o) leftSquare h, ne-eqb (symOf c) rightSquare k)
 
 dims-pair : (u : Ty) (ts : List Token) → lookahead ts ≡ leftSquare → lookahead (rest ts) ≡ rightSquare → dims true u ts ≡ dims true (arrayOf u) (rest (rest ts))
 unfolding dims
-dims-pair u [] h k = let x : _≡_ {A = ℕ} 268 91 = h in absurd (omega arith)
-dims-pair u (o ∷ []) h k = let x : _≡_ {A = ℕ} 268 93 = k in absurd (omega arith)
+dims-pair u [] h k = absurd (end-not leftSquare (omega arith) h)
+dims-pair u (o ∷ []) h k = absurd (end-not rightSquare (omega arith) k)
 dims-pair u (o ∷ c ∷ ts) h k = simp (eq-eqb (symOf o) leftSquare h, eq-eqb (symOf c) rightSquare k)
 
 -- ---- the parts of a type

@@ -23,7 +23,7 @@ use Rattle.syntax.proofs.Shrinks.{value-shrinks}
 use Rattle.syntax.proofs.Tails.{expect-tails, value-tails}
 use Rattle.syntax.proofs.Table.{toks-rest}
 use Rattle.syntax.proofs.Chain.{clash, chain, mapped-same}
-use Rattle.syntax.proofs.Symbols.{look-none, begun, begins-look, stands, stands-by, one-more}
+use Rattle.syntax.proofs.Symbols.{look-none, begun, end-not, begins-look, stands, stands-by, one-more}
 use Rattle.syntax.proofs.Rows.{Sound, row-fell}
 
 pub value-sound : (m : Leaves) (b : ℕ) → Sound (value m b)
@@ -153,7 +153,7 @@ module _ (m : Leaves) (e n : ℕ) (ts : List Token) (h : isLeaf m (lookahead ts)
         where
           go : (us : List Token) → lookahead us ≡ leftSquare
               → parsed e n (begun (bracketed (λ ws. value m (b - 1) ws)) us) ≡ parsed e n (arrayItems (value m (b - 1)) (rest us))
-          go [] s = let x : _≡_ {A = ℕ} 268 91 = s in absurd (omega arith)
+          go [] s = absurd (end-not leftSquare (omega arith) s)
           go (t ∷ us) s = simp (eq-eqb (symOf t) leftSquare s) (mapped-same e n (array t) (arrayItems (value m (b - 1)) us))
 
       pub value-tuple : (lookahead ts ≡ leftSquare → ⊥) → parsed e n (value m b ts) ≡ parsed e n (tupleItems (value m (b - 1)) (rest ts))

@@ -91,10 +91,10 @@ fits-array-μ-loop vtext vtable vn v ttext ttable tn t kinds k i₀ i = vn - i
 fits-array-symbol-at-requires : (t : ℕ) → fits-array-lts.Need-symbol-at-requires (
   symbol-at-reads.Asked,
   symbol-at-reads.Learnt,
-  is-leaf-reads.Asked,
-  is-leaf-reads.Learnt,
-  fits-leaf-reads.Asked,
-  fits-leaf-reads.Learnt,
+  starts-leaf-reads.Asked,
+  starts-leaf-reads.Learnt,
+  fits-signed-reads.Asked,
+  fits-signed-reads.Learnt,
   fits-base-below t,
   fits-base.Post,
 ) (fits-array-at t) fits-array.Post fits-array-Inv-loop fits-array-μ-loop
@@ -103,10 +103,10 @@ fits-array-symbol-at-requires t c κs = search needs
 fits-array-add-result : (t : ℕ) → fits-array-lts.Need-add-result (
   symbol-at-reads.Asked,
   symbol-at-reads.Learnt,
-  is-leaf-reads.Asked,
-  is-leaf-reads.Learnt,
-  fits-leaf-reads.Asked,
-  fits-leaf-reads.Learnt,
+  starts-leaf-reads.Asked,
+  starts-leaf-reads.Learnt,
+  fits-signed-reads.Asked,
+  fits-signed-reads.Learnt,
   fits-base-below t,
   fits-base.Post,
 ) (fits-array-at t) fits-array.Post fits-array-Inv-loop fits-array-μ-loop
@@ -122,10 +122,10 @@ fits-array-add-result t c =
 fits-array-returns : (t : ℕ) → fits-array-lts.Need-returns (
   symbol-at-reads.Asked,
   symbol-at-reads.Learnt,
-  is-leaf-reads.Asked,
-  is-leaf-reads.Learnt,
-  fits-leaf-reads.Asked,
-  fits-leaf-reads.Learnt,
+  starts-leaf-reads.Asked,
+  starts-leaf-reads.Learnt,
+  fits-signed-reads.Asked,
+  fits-signed-reads.Learnt,
   fits-base-below t,
   fits-base.Post,
 ) (fits-array-at t) fits-array.Post fits-array-Inv-loop fits-array-μ-loop
@@ -143,10 +143,10 @@ fits-array-returns t c =
 fits-array-loop-holds : (t : ℕ) → fits-array-lts.Need-loop-holds (
   symbol-at-reads.Asked,
   symbol-at-reads.Learnt,
-  is-leaf-reads.Asked,
-  is-leaf-reads.Learnt,
-  fits-leaf-reads.Asked,
-  fits-leaf-reads.Learnt,
+  starts-leaf-reads.Asked,
+  starts-leaf-reads.Learnt,
+  fits-signed-reads.Asked,
+  fits-signed-reads.Learnt,
   fits-base-below t,
   fits-base.Post,
 ) (fits-array-at t) fits-array.Post fits-array-Inv-loop fits-array-μ-loop
@@ -163,52 +163,52 @@ fits-array-loop-holds t c =
 fits-array-symbol-at-requires-2 : (t : ℕ) → fits-array-lts.Need-symbol-at-requires-2 (
   symbol-at-reads.Asked,
   symbol-at-reads.Learnt,
-  is-leaf-reads.Asked,
-  is-leaf-reads.Learnt,
-  fits-leaf-reads.Asked,
-  fits-leaf-reads.Learnt,
+  starts-leaf-reads.Asked,
+  starts-leaf-reads.Learnt,
+  fits-signed-reads.Asked,
+  fits-signed-reads.Learnt,
   fits-base-below t,
   fits-base.Post,
 ) (fits-array-at t) fits-array.Post fits-array-Inv-loop fits-array-μ-loop
 fits-array-symbol-at-requires-2 t c κs = search needs
 
-fits-array-is-leaf-requires : (t : ℕ) → fits-array-lts.Need-is-leaf-requires (
+fits-array-starts-leaf-requires : (t : ℕ) → fits-array-lts.Need-starts-leaf-requires (
   symbol-at-reads.Asked,
   symbol-at-reads.Learnt,
-  is-leaf-reads.Asked,
-  is-leaf-reads.Learnt,
-  fits-leaf-reads.Asked,
-  fits-leaf-reads.Learnt,
+  starts-leaf-reads.Asked,
+  starts-leaf-reads.Learnt,
+  fits-signed-reads.Asked,
+  fits-signed-reads.Learnt,
   fits-base-below t,
   fits-base.Post,
 ) (fits-array-at t) fits-array.Post fits-array-Inv-loop fits-array-μ-loop
-fits-array-is-leaf-requires t c κs = search needs
+fits-array-starts-leaf-requires t c κs = search needs
 
-fits-array-fits-leaf-requires : (t : ℕ) → fits-array-lts.Need-fits-leaf-requires (
+fits-array-fits-signed-requires : (t : ℕ) → fits-array-lts.Need-fits-signed-requires (
   symbol-at-reads.Asked,
   symbol-at-reads.Learnt,
-  is-leaf-reads.Asked,
-  is-leaf-reads.Learnt,
-  fits-leaf-reads.Asked,
-  fits-leaf-reads.Learnt,
+  starts-leaf-reads.Asked,
+  starts-leaf-reads.Learnt,
+  fits-signed-reads.Asked,
+  fits-signed-reads.Learnt,
   fits-base-below t,
   fits-base.Post,
 ) (fits-array-at t) fits-array.Post fits-array-Inv-loop fits-array-μ-loop
-fits-array-fits-leaf-requires t c κs =
+fits-array-fits-signed-requires t c κs =
     let e = c .before .before in
     let l = e .before .loop in
     let s = e .before .before .before .before .before .before .before .before in
     let a = s .args in
-    let leaf = sym (c .before .is-leaf .ensures) ∙ c .if2 .taken in
-    (s .pre .1 .0, stands-by (a .vtext .now) (a .vtable .now) (a .vn) (l .i) isLeafSymbol refl (e .symbol-at2 .ensures) leaf)
+    let leaf = sym (c .before .starts-leaf .ensures) ∙ c .if2 .taken in
+    (s .pre .1 .0, stands-by (a .vtext .now) (a .vtable .now) (a .vn) (l .i) startsLeaf refl (e .symbol-at2 .ensures) leaf)
 
 fits-array-fits-base-requires : (t : ℕ) → fits-array-lts.Need-fits-base-requires (
   symbol-at-reads.Asked,
   symbol-at-reads.Learnt,
-  is-leaf-reads.Asked,
-  is-leaf-reads.Learnt,
-  fits-leaf-reads.Asked,
-  fits-leaf-reads.Learnt,
+  starts-leaf-reads.Asked,
+  starts-leaf-reads.Learnt,
+  fits-signed-reads.Asked,
+  fits-signed-reads.Learnt,
   fits-base-below t,
   fits-base.Post,
 ) (fits-array-at t) fits-array.Post fits-array-Inv-loop fits-array-μ-loop
@@ -223,10 +223,10 @@ abbrev fits-array-meeting : ℕ → Type 0
 fits-array-meeting t = fits-array-lts.Joined2 (
   symbol-at-reads.Asked,
   symbol-at-reads.Learnt,
-  is-leaf-reads.Asked,
-  is-leaf-reads.Learnt,
-  fits-leaf-reads.Asked,
-  fits-leaf-reads.Learnt,
+  starts-leaf-reads.Asked,
+  starts-leaf-reads.Learnt,
+  fits-signed-reads.Asked,
+  fits-signed-reads.Learnt,
   fits-base-below t,
   fits-base.Post,
 ) (fits-array-at t) fits-array.Post fits-array-Inv-loop fits-array-μ-loop
@@ -255,11 +255,11 @@ fits-array-answered t j =
     let tn = a .tn in
     let bytes : (b : ℕ) → getD (a .vtext .now) b 0 < 256 = λ b. omega (arith, known .shared-slice-known .given b) in
     ⊎-elim (λ w.
-    let leaf = sym (at-leaf .is-leaf .ensures) ∙ w .0 .taken in
-    let h = stands-by text table n i isLeafSymbol refl (x .ensures) leaf in
+    let leaf = sym (at-leaf .starts-leaf .ensures) ∙ w .0 .taken in
+    let h = stands-by text table n i startsLeaf refl (x .ensures) leaf in
     let e = w .2 ∙ w .1 .ensures in (
-      leaf-within text table n i ttext ttable tn (a .t) (a .k) (x .result) (x .ensures) (s .pre .1 .0) bytes h leaf (a .kinds) (j .if2 .next) e,
-      leaf-answer text table n i ttext ttable tn (a .t) (a .k) (x .result) (x .ensures) (s .pre .1 .0) bytes h leaf (a .kinds) (j .if2 .next) e,
+      signed-within text table n i ttext ttable tn (a .t) (a .k) (x .result) (x .ensures) (s .pre .1 .0) bytes h leaf (a .kinds) (j .if2 .next) e,
+      signed-answer text table n i ttext ttable tn (a .t) (a .k) (x .result) (x .ensures) (s .pre .1 .0) bytes h leaf (a .kinds) (j .if2 .next) e,
     ))
     (λ w. rw (w .2) (w .1 .ensures .0, w .1 .ensures .1))
     (j .if2 .came)
@@ -267,10 +267,10 @@ fits-array-answered t j =
 fits-array-returns-2 : (t : ℕ) → fits-array-lts.Need-returns-2 (
   symbol-at-reads.Asked,
   symbol-at-reads.Learnt,
-  is-leaf-reads.Asked,
-  is-leaf-reads.Learnt,
-  fits-leaf-reads.Asked,
-  fits-leaf-reads.Learnt,
+  starts-leaf-reads.Asked,
+  starts-leaf-reads.Learnt,
+  fits-signed-reads.Asked,
+  fits-signed-reads.Learnt,
   fits-base-below t,
   fits-base.Post,
 ) (fits-array-at t) fits-array.Post fits-array-Inv-loop fits-array-μ-loop
@@ -289,10 +289,10 @@ fits-array-returns-2 t c =
 fits-array-symbol-at-requires-3 : (t : ℕ) → fits-array-lts.Need-symbol-at-requires-3 (
   symbol-at-reads.Asked,
   symbol-at-reads.Learnt,
-  is-leaf-reads.Asked,
-  is-leaf-reads.Learnt,
-  fits-leaf-reads.Asked,
-  fits-leaf-reads.Learnt,
+  starts-leaf-reads.Asked,
+  starts-leaf-reads.Learnt,
+  fits-signed-reads.Asked,
+  fits-signed-reads.Learnt,
   fits-base-below t,
   fits-base.Post,
 ) (fits-array-at t) fits-array.Post fits-array-Inv-loop fits-array-μ-loop
@@ -301,10 +301,10 @@ fits-array-symbol-at-requires-3 t c κs = search needs
 fits-array-add-result-2 : (t : ℕ) → fits-array-lts.Need-add-result-2 (
   symbol-at-reads.Asked,
   symbol-at-reads.Learnt,
-  is-leaf-reads.Asked,
-  is-leaf-reads.Learnt,
-  fits-leaf-reads.Asked,
-  fits-leaf-reads.Learnt,
+  starts-leaf-reads.Asked,
+  starts-leaf-reads.Learnt,
+  fits-signed-reads.Asked,
+  fits-signed-reads.Learnt,
   fits-base-below t,
   fits-base.Post,
 ) (fits-array-at t) fits-array.Post fits-array-Inv-loop fits-array-μ-loop
@@ -324,10 +324,10 @@ fits-array-add-result-2 t c =
 fits-array-returns-3 : (t : ℕ) → fits-array-lts.Need-returns-3 (
   symbol-at-reads.Asked,
   symbol-at-reads.Learnt,
-  is-leaf-reads.Asked,
-  is-leaf-reads.Learnt,
-  fits-leaf-reads.Asked,
-  fits-leaf-reads.Learnt,
+  starts-leaf-reads.Asked,
+  starts-leaf-reads.Learnt,
+  fits-signed-reads.Asked,
+  fits-signed-reads.Learnt,
   fits-base-below t,
   fits-base.Post,
 ) (fits-array-at t) fits-array.Post fits-array-Inv-loop fits-array-μ-loop
@@ -353,10 +353,10 @@ fits-array-returns-3 t c =
 fits-array-returns-4 : (t : ℕ) → fits-array-lts.Need-returns-4 (
   symbol-at-reads.Asked,
   symbol-at-reads.Learnt,
-  is-leaf-reads.Asked,
-  is-leaf-reads.Learnt,
-  fits-leaf-reads.Asked,
-  fits-leaf-reads.Learnt,
+  starts-leaf-reads.Asked,
+  starts-leaf-reads.Learnt,
+  fits-signed-reads.Asked,
+  fits-signed-reads.Learnt,
   fits-base-below t,
   fits-base.Post,
 ) (fits-array-at t) fits-array.Post fits-array-Inv-loop fits-array-μ-loop
@@ -380,10 +380,10 @@ fits-array-returns-4 t c =
 fits-array-add-i : (t : ℕ) → fits-array-lts.Need-add-i (
   symbol-at-reads.Asked,
   symbol-at-reads.Learnt,
-  is-leaf-reads.Asked,
-  is-leaf-reads.Learnt,
-  fits-leaf-reads.Asked,
-  fits-leaf-reads.Learnt,
+  starts-leaf-reads.Asked,
+  starts-leaf-reads.Learnt,
+  fits-signed-reads.Asked,
+  fits-signed-reads.Learnt,
   fits-base-below t,
   fits-base.Post,
 ) (fits-array-at t) fits-array.Post fits-array-Inv-loop fits-array-μ-loop
@@ -404,10 +404,10 @@ fits-array-add-i t c =
 fits-array-loop-less : (t : ℕ) → fits-array-lts.Need-loop-less (
   symbol-at-reads.Asked,
   symbol-at-reads.Learnt,
-  is-leaf-reads.Asked,
-  is-leaf-reads.Learnt,
-  fits-leaf-reads.Asked,
-  fits-leaf-reads.Learnt,
+  starts-leaf-reads.Asked,
+  starts-leaf-reads.Learnt,
+  fits-signed-reads.Asked,
+  fits-signed-reads.Learnt,
   fits-base-below t,
   fits-base.Post,
 ) (fits-array-at t) fits-array.Post fits-array-Inv-loop fits-array-μ-loop
@@ -429,10 +429,10 @@ fits-array-loop-less t c =
 fits-array-loop-again : (t : ℕ) → fits-array-lts.Need-loop-again (
   symbol-at-reads.Asked,
   symbol-at-reads.Learnt,
-  is-leaf-reads.Asked,
-  is-leaf-reads.Learnt,
-  fits-leaf-reads.Asked,
-  fits-leaf-reads.Learnt,
+  starts-leaf-reads.Asked,
+  starts-leaf-reads.Learnt,
+  fits-signed-reads.Asked,
+  fits-signed-reads.Learnt,
   fits-base-below t,
   fits-base.Post,
 ) (fits-array-at t) fits-array.Post fits-array-Inv-loop fits-array-μ-loop
@@ -1334,10 +1334,10 @@ pub +fits-array+fits-base+fits-each+fits-one-spec : {M : Type 1} → statement M
     close μ-fits-array μ-fits-base μ-fits-each μ-fits-one (λ t. fits-array-lts.spec (
       symbol-at-reads.Asked,
       symbol-at-reads.Learnt,
-      is-leaf-reads.Asked,
-      is-leaf-reads.Learnt,
-      fits-leaf-reads.Asked,
-      fits-leaf-reads.Learnt,
+      starts-leaf-reads.Asked,
+      starts-leaf-reads.Learnt,
+      fits-signed-reads.Asked,
+      fits-signed-reads.Learnt,
       fits-base-below t,
       fits-base.Post,
     )
@@ -1350,8 +1350,8 @@ pub +fits-array+fits-base+fits-each+fits-one-spec : {M : Type 1} → statement M
     (fits-array-returns t)
     (fits-array-loop-holds t)
     (fits-array-symbol-at-requires-2 t)
-    (fits-array-is-leaf-requires t)
-    (fits-array-fits-leaf-requires t)
+    (fits-array-starts-leaf-requires t)
+    (fits-array-fits-signed-requires t)
     (fits-array-fits-base-requires t)
     (fits-array-returns-2 t)
     (fits-array-symbol-at-requires-3 t)
