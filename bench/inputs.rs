@@ -30,7 +30,7 @@ pub fn texts() -> Vec<(&'static str, Vec<u8>)> {
     ]
 }
 
-/// The pairs for `check` and `canon`. All but the first two come near a limit:
+/// The pairs for `check`, `canon` and `order`. All but the first two come near a limit:
 /// 16,384 bytes or 4,096 tokens of a text, or 384 calls.
 pub fn inputs() -> Vec<Input> {
     let input = |name, pair| Input {

@@ -6,20 +6,22 @@
 //! - `count`: runs every operation for callgrind to count its instructions;
 //! - `tables`, a unit and files: prints the tables of what is in the files.
 //!
-//! Both sides do the same work on the same lent buffers; for `check` and `canon`
-//! each clears both work areas, 16,384 words each, in every call.
+//! Both sides do the same work on the same lent buffers; for `check`, `canon` and
+//! `order` each clears both work areas, 16,384 words each, in every call.
 
 #[path = "../include/nnef.rs"]
 mod library;
 
 mod counting;
 mod inputs;
+mod orders;
 mod sides;
 mod tables;
 mod timing;
 
 use counting::Counter;
-use sides::{Lent, Sides, CANON, CHECK, TOKENS};
+use orders::Ordered;
+use sides::{Lent, Sides, CANON, CHECK, ORDER, TOKENS};
 use std::fs;
 use tables::Figures;
 use timing::Timer;
@@ -71,5 +73,10 @@ fn measure_all(measure: &mut impl Measure) {
             assert_eq!(answer[0], code, "{}: another code", input.name);
             measure.measure(sides, &input.pair, &mut lent);
         }
+        let ordered = Ordered::new(input.pair);
+        let mut lent = Lent::new();
+        let answer = ORDER.agreed(input.name, &ordered, &mut lent, &mut Lent::new());
+        assert_eq!(answer[0], library::ACCEPTED, "{}: refused", input.name);
+        measure.measure(&ORDER, &ordered, &mut lent);
     }
 }

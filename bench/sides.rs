@@ -2,6 +2,7 @@
 
 use crate::inputs::Pair;
 use crate::library::{self, CALL_WORDS, TEXT_BYTES, WIRE_WORDS, WORK_WORDS};
+use crate::orders::Ordered;
 
 /// An operation on an input, with what is lent to it.
 pub type Operation<Input, Lent> = fn(&Input, &mut Lent) -> [u32; 4];
@@ -41,7 +42,18 @@ pub const CANON: Sides<Pair, Lent> = Sides {
     },
 };
 
-/// What `check` and `canon` are lent.
+pub const ORDER: Sides<Ordered, Lent> = Sides {
+    library: |Ordered { pair, order }, lent| {
+        let [list_work, document_work] = &mut lent.work;
+        library::order(&pair.list, &pair.document, list_work, document_work, order).numbers()
+    },
+    reference: |Ordered { pair, order }, lent| {
+        let [list_work, document_work] = &mut lent.work;
+        nnef_reference::order(&pair.list, &pair.document, list_work, document_work, order).numbers()
+    },
+};
+
+/// What `check`, `canon` and `order` are lent.
 #[derive(PartialEq)]
 pub struct Lent {
     /// The work areas of the list and of the document.

@@ -110,23 +110,26 @@ fn print_tokens(figures: &mut Figures) {
 fn print_pairs(inputs: &[Input], figures: &mut Figures) {
     println!(
         "| input | list, bytes | document, bytes | calls | `check`: library | reference | ratio \
-         | `canon`: code | library | reference | ratio |"
+         | `canon`: code | library | reference | ratio | `order`: library | reference | ratio |"
     );
-    println!("|---|---|---|---|---|---|---|---|---|---|---|");
-    let [mut checks, mut canons] = [Vec::new(), Vec::new()];
+    println!("|---|---|---|---|---|---|---|---|---|---|---|---|---|---|");
+    let [mut checks, mut canons, mut orders] = [Vec::new(), Vec::new(), Vec::new()];
     for Input { name, pair, code } in inputs {
         let [_, _, _, calls] = CHECK.agreed(name, pair, &mut Lent::new(), &mut Lent::new());
-        let [check, canon] = [figures.take(), figures.take()];
+        let [check, canon, order] = [(); 3].map(|()| figures.take());
         let (list, document) = (pair.list.len(), pair.document.len());
-        let (check_cells, canon_cells) = (check.cells(), canon.cells());
-        println!("| {name} | {list} | {document} | {calls} {check_cells}| {code} {canon_cells}|");
+        let [check_cells, canon_cells, order_cells] = [check, canon, order].map(Figure::cells);
+        println!(
+            "| {name} | {list} | {document} | {calls} {check_cells}| {code} {canon_cells}{order_cells}|"
+        );
         checks.push(check.ratio());
         canons.push(canon.ratio());
+        orders.push(order.ratio());
     }
     if inputs.len() > 1 {
         for (name, figure) in ENDS {
-            let [check, canon] = [figure(&checks), figure(&canons)];
-            println!("| {name} | | | | | | {check:.2} | | | | {canon:.2} |");
+            let [check, canon, order] = [&checks, &canons, &orders].map(|ratios| figure(ratios));
+            println!("| {name} | | | | | | {check:.2} | | | | {canon:.2} | | | {order:.2} |");
         }
     }
     println!();
@@ -140,10 +143,10 @@ fn print_growth(figures: &mut Figures) {
     for (name, inputs) in inputs::growth() {
         let measured = inputs.map(|input| {
             let bytes = input.pair.document.len() as f64;
-            (bytes, [figures.take(), figures.take()])
+            (bytes, [(); 3].map(|()| figures.take()))
         });
-        for (place, operation) in ["check", "canon"].into_iter().enumerate() {
-            let points = measured.map(|(bytes, both)| (bytes, both[place]));
+        for (place, operation) in ["check", "canon", "order"].into_iter().enumerate() {
+            let points = measured.map(|(bytes, all)| (bytes, all[place]));
             let cells = points.map(|(_, figure)| {
                 format!(
                     "| {} ({:.2}) ",

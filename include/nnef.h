@@ -13,10 +13,11 @@
  * lengths it is given.
  *
  * Every buffer is a pointer and a length, in bytes for texts and outputs, in
- * words of 32 bits for tables and work areas. With length 0 the pointer may be
- * NULL; nothing is read or written through it. Texts are only read, and a list
- * and a document may overlap or be one buffer. Tables, work areas and outputs
- * are written to, and none of them may overlap any other buffer of the call.
+ * words of 32 bits for tables, work areas and orders. With length 0 the pointer
+ * may be NULL; nothing is read or written through it. Texts and orders are only
+ * read, and they may overlap each other or be one buffer. Tables, work areas and
+ * outputs are written to, and none of them may overlap any other buffer of the
+ * call.
  */
 #ifndef NNEF_H
 #define NNEF_H
@@ -29,7 +30,7 @@ extern "C" {
 #endif
 
 /* The version of the library that this header belongs to. */
-#define NNEF_LIBRARY_VERSION "2.1.0"
+#define NNEF_LIBRARY_VERSION "2.2.0"
 
 /* Sizes: the most that there may be. */
 #define NNEF_TEXT_BYTES 16384 /* bytes of a text */
@@ -66,12 +67,13 @@ extern "C" {
 #define NNEF_DECLARATIONS_STACK 49152
 #define NNEF_CHECK_STACK 86016
 #define NNEF_CANON_STACK 106496
+#define NNEF_ORDER_STACK 86016
 
 /* What an operation answers with. */
 typedef struct nnef_answer {
     uint32_t code;     /* one of enum nnef_code; 0 is acceptance */
     uint32_t text;     /* the text with the fault: 1 the list or the only one, 2 the document, 0 none */
-    uint32_t position; /* the fault's place in that text, in bytes from 0 */
+    uint32_t position; /* the fault's place in that text, in bytes from 0; with codes 41 to 44 its place in the order, from 0 */
     uint32_t detail;   /* after acceptance a count; with code 19 a parameter's index, from 0; with code 26 a length; else 0 */
 } nnef_answer;
 
@@ -79,9 +81,10 @@ typedef struct nnef_answer {
  * Codes. Of several faults the stage decides first. The stages are, in this
  * order: code 1; code 2, of the list and then of the document; the list's bytes
  * (3 to 8), its syntax (9, 10) and its rules (12 to 14); the document's bytes
- * (3 to 8), its syntax (9, 10) and its rules (11 to 13, 15 to 24); code 25; code
- * 26. In one stage the fault with the smallest position is given, and of those
- * at one position the one with the smallest code.
+ * (3 to 8), its syntax (9, 10) and its rules (11 to 13, 15 to 24); then, of
+ * nnef_canon, code 25 and code 26, and of nnef_order code 41 and the order's
+ * numbers (42 to 44). In one stage the fault with the smallest position is
+ * given, and of those at one position the one with the smallest code.
  */
 enum nnef_code {
     NNEF_ACCEPTED = 0,        /* no fault; text and position are 0 */
@@ -110,7 +113,11 @@ enum nnef_code {
     NNEF_MISFED = 23,         /* an input is not assigned by `external`, or another identifier is */
     NNEF_UNMADE = 24,         /* an output is never assigned */
     NNEF_CANON_TOO_LONG = 25, /* the canonical text has more than 16384 bytes or 4096 tokens; text and position are 0 */
-    NNEF_OUT_TOO_SHORT = 26   /* the lent output is shorter than the canonical text; text and position are 0, detail is its length */
+    NNEF_OUT_TOO_SHORT = 26,  /* the lent output is shorter than the canonical text; text and position are 0, detail is its length */
+    NNEF_ORDER_LENGTH = 41,   /* the order has more or fewer numbers than the graph has calls; text and position are 0 */
+    NNEF_NO_CALL = 42,        /* the number at position in the order is no call of the graph; text is 0 */
+    NNEF_CALL_REPEATED = 43,  /* the number at position in the order stands at an earlier place too; text is 0 */
+    NNEF_USE_TOO_EARLY = 44   /* the call at position in the order uses what a call assigns that stands at no earlier place; text is 0 */
 };
 
 /*
@@ -214,9 +221,43 @@ nnef_answer nnef_canon(const uint8_t *list, size_t list_len,
                        uint8_t *out, size_t out_len);
 
 /*
- * For messages to people. These three are plain C, in this header alone, and
+ * Judges an order of the calls of a document under an operation list: whether
+ * each call stands in it once, and after the calls that assign what it uses.
+ * Codes 0 to 24 and 41 to 44.
+ *
+ * Code 1: `list_work` or `document_work` has fewer than NNEF_WORK_WORDS words.
+ * Neither of them may overlap the other, the list, the document or the order.
+ * The order may have any length; it is only read.
+ *
+ * Calls have the numbers that nnef_check gives them: from 0, as they stand in
+ * the document, those of `external` too. What nnef_check refuses is refused with
+ * the same four numbers. Then an order of another length than the number of
+ * calls is code 41. Else the first place is given at which the number is no
+ * call (42), stands at an earlier place too (43), or is a call that uses an
+ * identifier whose assigning call stands at no earlier place (44); text and
+ * detail are 0, and position is that place, counted from 0. When the order is
+ * accepted, detail is the number of calls. After any answer but codes 1 and 2,
+ * which write nothing, the work areas are zero over their whole length.
+ */
+nnef_answer nnef_order(const uint8_t *list, size_t list_len,
+                       const uint8_t *document, size_t document_len,
+                       uint32_t *list_work, size_t list_work_len,
+                       uint32_t *document_work, size_t document_work_len,
+                       const uint32_t *order, size_t order_len);
+
+/*
+ * For messages to people. These four are plain C, in this header alone, and
  * no part of what is proved.
  */
+
+/* The place of a code among all codes, by rising number; that of any other number is beyond them. */
+static inline size_t nnef_code_place(uint32_t code)
+{
+    if (code <= NNEF_OUT_TOO_SHORT) {
+        return code;
+    }
+    return code < NNEF_ORDER_LENGTH ? (size_t)-1 : (size_t)code - NNEF_ORDER_LENGTH + NNEF_OUT_TOO_SHORT + 1;
+}
 
 /* The name of a code as in enum nnef_code, without NNEF_; "UNKNOWN" of any other number. */
 static inline const char *nnef_code_name(uint32_t code)
@@ -248,9 +289,14 @@ static inline const char *nnef_code_name(uint32_t code)
         "MISFED",
         "UNMADE",
         "CANON_TOO_LONG",
-        "OUT_TOO_SHORT"
+        "OUT_TOO_SHORT",
+        "ORDER_LENGTH",
+        "NO_CALL",
+        "CALL_REPEATED",
+        "USE_TOO_EARLY"
     };
-    return code < sizeof names / sizeof *names ? names[code] : "UNKNOWN";
+    const size_t place = nnef_code_place(code);
+    return place < sizeof names / sizeof *names ? names[place] : "UNKNOWN";
 }
 
 /* What a code says, in a few words of English without a full stop. */
@@ -283,9 +329,14 @@ static inline const char *nnef_code_text(uint32_t code)
         "an input is not assigned by external, or another identifier is",
         "the output is never assigned",
         "the canonical text has more than 16384 bytes or 4096 tokens",
-        "the lent output is shorter than the canonical text"
+        "the lent output is shorter than the canonical text",
+        "the order has more or fewer numbers than the graph has calls",
+        "the graph has no call of this number",
+        "the call stands at an earlier place too",
+        "the call uses an identifier whose assigning call stands at no earlier place"
     };
-    return code < sizeof texts / sizeof *texts ? texts[code] : "no code of this library";
+    const size_t place = nnef_code_place(code);
+    return place < sizeof texts / sizeof *texts ? texts[place] : "no code of this library";
 }
 
 /* A place in a text for people: both numbers count from 1, and the column counts bytes. */

@@ -5,7 +5,7 @@
 #![allow(dead_code)]
 
 /// The version of the library that this module belongs to.
-pub const LIBRARY_VERSION: &str = "2.1.0";
+pub const LIBRARY_VERSION: &str = "2.2.0";
 
 // Sizes: the most that there may be.
 pub const TEXT_BYTES: usize = 16_384;
@@ -39,6 +39,7 @@ pub const TOKENS_STACK: usize = 53_248;
 pub const DECLARATIONS_STACK: usize = 49_152;
 pub const CHECK_STACK: usize = 86_016;
 pub const CANON_STACK: usize = 106_496;
+pub const ORDER_STACK: usize = 86_016;
 
 // Codes.
 pub const ACCEPTED: u32 = 0;
@@ -68,6 +69,10 @@ pub const MISFED: u32 = 23;
 pub const UNMADE: u32 = 24;
 pub const CANON_TOO_LONG: u32 = 25;
 pub const OUT_TOO_SHORT: u32 = 26;
+pub const ORDER_LENGTH: u32 = 41;
+pub const NO_CALL: u32 = 42;
+pub const CALL_REPEATED: u32 = 43;
+pub const USE_TOO_EARLY: u32 = 44;
 
 // Kinds of token. A `-` is an operator, before a number too.
 pub const NAME: u32 = 1;
@@ -129,6 +134,18 @@ unsafe extern "C" {
         document_work_len: usize,
         out: *mut u8,
         out_len: usize,
+    ) -> Answer;
+    fn nnef_order(
+        list: *const u8,
+        list_len: usize,
+        document: *const u8,
+        document_len: usize,
+        list_work: *mut u32,
+        list_work_len: usize,
+        document_work: *mut u32,
+        document_work_len: usize,
+        order: *const u32,
+        order_len: usize,
     ) -> Answer;
 }
 
@@ -194,6 +211,31 @@ pub fn canon(
             document_work.len(),
             out.as_mut_ptr(),
             out.len(),
+        )
+    }
+}
+
+/// Judges an order of the calls of a document under an operation list.
+pub fn order(
+    list: &[u8],
+    document: &[u8],
+    list_work: &mut [u32],
+    document_work: &mut [u32],
+    order: &[u32],
+) -> Answer {
+    // SAFETY: as for `check`.
+    unsafe {
+        nnef_order(
+            list.as_ptr(),
+            list.len(),
+            document.as_ptr(),
+            document.len(),
+            list_work.as_mut_ptr(),
+            list_work.len(),
+            document_work.as_mut_ptr(),
+            document_work.len(),
+            order.as_ptr(),
+            order.len(),
         )
     }
 }

@@ -30,6 +30,12 @@ static nnef_answer canon_of(const char *document, size_t work_len, size_t out_le
                       list_work, NNEF_WORK_WORDS, document_work, work_len, out, out_len);
 }
 
+static nnef_answer order_of(const char *document, size_t work_len, const uint32_t *order, size_t order_len)
+{
+    return nnef_order((const uint8_t *)LIST, strlen(LIST), (const uint8_t *)document, strlen(document),
+                      list_work, NNEF_WORK_WORDS, document_work, work_len, order, order_len);
+}
+
 static int answers(nnef_answer a, uint32_t code, uint32_t text, uint32_t position, uint32_t detail)
 {
     return a.code == code && a.text == text && a.position == position && a.detail == detail;
@@ -58,7 +64,26 @@ static int takes_null(void)
                               calls, NNEF_CALL_WORDS, NULL, 0), NNEF_LENT_TOO_SHORT, 0, 0, 0)
         && answers(nnef_canon(NULL, 0, NULL, 0, list_work, work_len, document_work, work_len, NULL, 0), NNEF_SYNTAX, 2, 0, 0)
         && answers(nnef_canon(list, list_len, document, document_len, list_work, work_len, document_work, work_len,
-                              NULL, 0), NNEF_OUT_TOO_SHORT, 0, 0, 88);
+                              NULL, 0), NNEF_OUT_TOO_SHORT, 0, 0, 88)
+        && answers(nnef_order(NULL, 0, NULL, 0, list_work, work_len, document_work, work_len, NULL, 0), NNEF_SYNTAX, 2, 0, 0)
+        && answers(nnef_order(NULL, 0, NULL, 0, NULL, 0, NULL, 0, NULL, 0), NNEF_LENT_TOO_SHORT, 0, 0, 0)
+        && answers(nnef_order(list, list_len, document, document_len, list_work, work_len, document_work, work_len,
+                              NULL, 0), NNEF_ORDER_LENGTH, 0, 0, 0);
+}
+
+/* Orders of two calls, the second of which uses the first. */
+static int judges_orders(void)
+{
+    static const uint32_t right[] = {0, 1, 1}, early[] = {1, 0}, twice[] = {0, 0}, beyond[] = {0, 4294967295u};
+    return answers(order_of(DOCUMENT, NNEF_WORK_WORDS, right, 2), NNEF_ACCEPTED, 0, 0, 2)
+        && answers(order_of(DOCUMENT, NNEF_WORK_WORDS, right, 1), NNEF_ORDER_LENGTH, 0, 0, 0)
+        && answers(order_of(DOCUMENT, NNEF_WORK_WORDS, right, 3), NNEF_ORDER_LENGTH, 0, 0, 0)
+        && answers(order_of(DOCUMENT, NNEF_WORK_WORDS, beyond, 2), NNEF_NO_CALL, 0, 1, 0)
+        && answers(order_of(DOCUMENT, NNEF_WORK_WORDS, twice, 2), NNEF_CALL_REPEATED, 0, 1, 0)
+        && answers(order_of(DOCUMENT, NNEF_WORK_WORDS, early, 2), NNEF_USE_TOO_EARLY, 0, 0, 0)
+        && answers(order_of(DOCUMENT, NNEF_WORK_WORDS - 1, right, 1), NNEF_LENT_TOO_SHORT, 0, 0, 0)
+        && answers(order_of("version 1.0", NNEF_WORK_WORDS, right, 1), NNEF_SYNTAX, 2, 11, 0)
+        && right[0] == 0 && right[1] == 1 && early[0] == 1;
 }
 
 /* A list and a document may overlap, here in a comment that ends the one and begins the other, or be one buffer. */
@@ -82,8 +107,10 @@ static int takes_overlap(void)
 static int names_codes(void)
 {
     uint32_t code;
-    for (code = NNEF_ACCEPTED; code <= NNEF_OUT_TOO_SHORT; code++) {
-        if (strcmp(nnef_code_text(code), nnef_code_text(27)) == 0) {
+    for (code = NNEF_ACCEPTED; code <= NNEF_USE_TOO_EARLY + 1; code++) {
+        int is_code = code <= NNEF_OUT_TOO_SHORT || (code >= NNEF_ORDER_LENGTH && code <= NNEF_USE_TOO_EARLY);
+        if (is_code != (strcmp(nnef_code_text(code), nnef_code_text(4294967295u)) != 0)
+            || is_code != (strcmp(nnef_code_name(code), "UNKNOWN") != 0)) {
             return 0;
         }
     }
@@ -93,7 +120,8 @@ static int names_codes(void)
         && NAMED(REPEATED) && NAMED(BAD_DEFAULT) && NAMED(UNDECLARED) && NAMED(MISPLACED) && NAMED(MISNAMED)
         && NAMED(MISFIT) && NAMED(MISSING) && NAMED(UNMATCHED) && NAMED(AGAIN) && NAMED(UNASSIGNED)
         && NAMED(MISFED) && NAMED(UNMADE) && NAMED(CANON_TOO_LONG) && NAMED(OUT_TOO_SHORT)
-        && strcmp(nnef_code_name(27), "UNKNOWN") == 0;
+        && NAMED(ORDER_LENGTH) && NAMED(NO_CALL) && NAMED(CALL_REPEATED) && NAMED(USE_TOO_EARLY)
+        && strcmp(nnef_code_name(4294967295u), "UNKNOWN") == 0;
 }
 
 static int stands(const char *text, size_t position, size_t line, size_t column)
@@ -127,6 +155,7 @@ int main(void)
         && out[0] == 0
         && answers(canon_of(DOCUMENT, NNEF_WORK_WORDS, NNEF_TEXT_BYTES), NNEF_ACCEPTED, 0, 0, 88)
         && memcmp(out, CANONICAL, sizeof CANONICAL) == 0
+        && judges_orders()
         && names_codes()
         && finds_places()
         && takes_null()

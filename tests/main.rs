@@ -13,6 +13,7 @@ mod canon;
 mod check;
 mod lent;
 mod options;
+mod order;
 mod processors;
 mod program;
 mod progress;
@@ -63,6 +64,7 @@ fn run(operation: &str, options: &Options) -> Total {
         "tokens" => tokens::run(options),
         "check" => check::run(options),
         "canon" => canon::run(options),
+        "order" => order::run(options),
         _ => stack::run(options.seed),
     }
 }

@@ -3,7 +3,7 @@
 use std::ops::Range;
 
 /// The operations that may be run alone.
-pub const OPERATIONS: [&str; 4] = ["tokens", "check", "canon", "stack"];
+pub const OPERATIONS: [&str; 5] = ["tokens", "check", "canon", "order", "stack"];
 
 pub struct Options {
     count: u64,

@@ -1,17 +1,18 @@
 //! Runs the examples of pages of documents against the library.
 //!
 //! Arguments: the pages. On a page a fenced block of the sort `text`, `list` or
-//! `document` is that text, without its last line feed. In a text `{piece}*N`
-//! stands for the piece N times, with the number of the repetition, from 0, for
-//! each `%` in it. What stands before the first section holds for every one. Of
-//! the texts before it a line may say
+//! `document` is that text, without its last line feed, and one of the sort `order`
+//! has numbers, with blanks between them. In a text `{piece}*N` stands for the piece
+//! N times, with the number of the repetition, from 0, for each `%` in it. What
+//! stands before the first section holds for every one. Of the texts before it a
+//! line may say
 //!
 //! - `check` answers `15 2 59 0`, or `canon`, lent 75 bytes, answers `26 0 0 76`;
 //! - `canon` writes the same for both, or `canon` writes different texts, of the
 //!   two documents before it, each under the list before it.
 //!
 //! The first answer of a section `## 15 NAME` has that code, and the last one is
-//! acceptance; such sections go from 1 to 26.
+//! acceptance; such sections go from 1 to 26, and then from 41 to 44.
 
 #[path = "../include/nnef.rs"]
 mod library;
@@ -24,6 +25,7 @@ struct Texts {
     text: Vec<u8>,
     list: Vec<u8>,
     document: Vec<u8>,
+    order: Vec<u32>,
     /// The list that stood before the document.
     document_list: Vec<u8>,
     /// The list and the document before these.
@@ -67,7 +69,7 @@ fn run(path: &str) -> usize {
         }
     }
     page.close(path);
-    let whole = page.code == 0 || page.code == library::OUT_TOO_SHORT;
+    let whole = page.code == 0 || page.code == library::USE_TOO_EARLY;
     page.expect(whole, path, "there are not as many sections as codes");
     println!("{path}: {} examples, {} wrong", page.runs, page.wrong);
     page.wrong
@@ -80,7 +82,10 @@ impl Page {
         self.texts = shared.clone();
         let number: Option<u32> = title.split(' ').next().and_then(|word| word.parse().ok());
         if let Some(code) = number {
-            self.code += 1;
+            self.code = match self.code {
+                library::OUT_TOO_SHORT => library::ORDER_LENGTH,
+                before => before + 1,
+            };
             self.expect(code == self.code, place, "not the next code");
         }
     }
@@ -130,6 +135,7 @@ impl Texts {
         match sort {
             "text" => self.text = bytes,
             "list" => self.list = bytes,
+            "order" => self.order = numbers(block),
             "document" => {
                 let document = std::mem::replace(&mut self.document, bytes);
                 let list = std::mem::replace(&mut self.document_list, self.list.clone());
@@ -155,6 +161,13 @@ impl Texts {
                 &mut [0; library::WIRE_WORDS],
             ),
             "canon" => canon(&self.list, &self.document, length(library::TEXT_BYTES)).0,
+            "order" => library::order(
+                &self.list,
+                &self.document,
+                &mut list_work,
+                &mut work,
+                &self.order,
+            ),
             _ => panic!("no operation is called {operation}"),
         };
         answer.numbers()
@@ -176,6 +189,13 @@ fn canon(list: &[u8], document: &[u8], length: usize) -> (library::Answer, Vec<u
     let mut out = vec![0; length];
     let answer = library::canon(list, document, list_work, document_work, &mut out);
     (answer, out)
+}
+
+/// The numbers of an order.
+fn numbers(block: &str) -> Vec<u32> {
+    let numbers = block.split_whitespace();
+    let numbers = numbers.map(|number| number.parse().expect("an order has numbers alone"));
+    numbers.collect()
 }
 
 /// The first word of a line, if it stands in backquotes, and what follows it.

@@ -2,7 +2,7 @@
 //! one byte, and the deepest byte that has changed is the deepest one touched.
 
 use crate::library;
-use crate::{canon, check, tokens, Total};
+use crate::{canon, check, order, tokens, Total};
 use nnef_random::{Lines, Rng, SORTS};
 use std::ffi::c_void;
 use std::ptr;
@@ -15,67 +15,107 @@ mod inputs;
 /// Random pairs that are run, beside those that are timed and those of written cases.
 const RANDOM: u64 = 2_000;
 
+/// A list and a document.
+type Texts = (Vec<u8>, Vec<u8>);
+
 /// Measures every operation and says how many take more than is stated of them.
 pub fn run(seed: u64) -> Total {
     let pairs = pairs(seed);
-    let lists = pairs.iter().map(|(list, _)| list);
-    let documents = pairs.iter().map(|(_, document)| document);
-    let written: Vec<_> = tokens::cases::CASES
-        .iter()
-        .map(|case| case.text())
-        .collect();
-    let timed: Vec<_> = inputs::texts().into_iter().map(|(_, text)| text).collect();
-    let texts = lists.clone().chain(documents).chain(&written).chain(&timed);
-
     let mut stack = Stack::new();
-    let mut work = [vec![0; library::WORK_WORDS], vec![0; library::WORK_WORDS]];
-    let [list_work, document_work] = &mut work;
-    let mut table = vec![0; library::TABLE_WORDS];
-    let mut calls = vec![0; library::CALL_WORDS];
-    let mut wires = vec![0; library::WIRE_WORDS];
-    let mut out = vec![0; library::TEXT_BYTES];
-
-    let tokens = texts.map(|text| {
-        stack.taken(|| {
-            library::tokens(text, &mut table);
-        })
-    });
-    let tokens = keeps("tokens", tokens.max(), library::TOKENS_STACK);
-    let declarations = lists.map(|list| {
-        stack.taken(|| {
-            library::declarations(list, list_work);
-        })
-    });
-    let declarations = keeps(
-        "declarations",
-        declarations.max(),
-        library::DECLARATIONS_STACK,
-    );
-    let check = pairs.iter().map(|(list, document)| {
-        stack.taken(|| {
-            library::check(
-                list,
-                document,
-                list_work,
-                document_work,
-                &mut calls,
-                &mut wires,
-            );
-        })
-    });
-    let check = keeps("check", check.max(), library::CHECK_STACK);
-    let canon = pairs.iter().map(|(list, document)| {
-        stack.taken(|| {
-            library::canon(list, document, list_work, document_work, &mut out);
-        })
-    });
-    let canon = keeps("canon", canon.max(), library::CANON_STACK);
-    let kept = [tokens, declarations, check, canon];
+    let mut room = Room::new();
+    let kept = [
+        tokens_keeps(&mut stack, &pairs),
+        declarations_keeps(&mut stack, &mut room, &pairs),
+        check_keeps(&mut stack, &mut room, &pairs),
+        canon_keeps(&mut stack, &mut room, &pairs),
+        order_keeps(&mut stack, &mut room, &pairs),
+    ];
     Total {
         written: kept.len(),
         random: 0,
         wrong: kept.iter().filter(|keeps| !**keeps).count(),
     }
+}
+
+/// What `declarations`, `check`, `canon` and `order` are lent.
+struct Room {
+    work: [Vec<u32>; 2],
+    calls: Vec<u32>,
+    wires: Vec<u32>,
+    out: Vec<u8>,
+}
+
+impl Room {
+    fn new() -> Room {
+        Room {
+            work: [vec![0; library::WORK_WORDS], vec![0; library::WORK_WORDS]],
+            calls: vec![0; library::CALL_WORDS],
+            wires: vec![0; library::WIRE_WORDS],
+            out: vec![0; library::TEXT_BYTES],
+        }
+    }
+
+    fn check(&mut self, list: &[u8], document: &[u8]) -> library::Answer {
+        let [list_work, document_work] = &mut self.work;
+        let (calls, wires) = (&mut self.calls, &mut self.wires);
+        library::check(list, document, list_work, document_work, calls, wires)
+    }
+}
+
+fn tokens_keeps(stack: &mut Stack, pairs: &[Texts]) -> bool {
+    let written = tokens::cases::CASES.iter().map(|case| case.text());
+    let timed = inputs::texts().into_iter().map(|(_, text)| text);
+    let more: Vec<Vec<u8>> = written.chain(timed).collect();
+    let texts = pairs.iter().flat_map(|(list, document)| [list, document]);
+    let mut table = vec![0; library::TABLE_WORDS];
+    let taken = texts.chain(&more).map(|text| {
+        stack.taken(|| {
+            library::tokens(text, &mut table);
+        })
+    });
+    keeps("tokens", taken.max(), library::TOKENS_STACK)
+}
+
+fn declarations_keeps(stack: &mut Stack, room: &mut Room, pairs: &[Texts]) -> bool {
+    let taken = pairs.iter().map(|(list, _)| {
+        stack.taken(|| {
+            library::declarations(list, &mut room.work[0]);
+        })
+    });
+    keeps("declarations", taken.max(), library::DECLARATIONS_STACK)
+}
+
+fn check_keeps(stack: &mut Stack, room: &mut Room, pairs: &[Texts]) -> bool {
+    let taken = pairs.iter().map(|(list, document)| {
+        stack.taken(|| {
+            room.check(list, document);
+        })
+    });
+    keeps("check", taken.max(), library::CHECK_STACK)
+}
+
+fn canon_keeps(stack: &mut Stack, room: &mut Room, pairs: &[Texts]) -> bool {
+    let taken = pairs.iter().map(|(list, document)| {
+        stack.taken(|| {
+            let [list_work, document_work] = &mut room.work;
+            library::canon(list, document, list_work, document_work, &mut room.out);
+        })
+    });
+    keeps("canon", taken.max(), library::CANON_STACK)
+}
+
+/// The calls of an accepted document stand in a right order.
+fn order_keeps(stack: &mut Stack, room: &mut Room, pairs: &[Texts]) -> bool {
+    let taken = pairs.iter().map(|(list, document)| {
+        let answer = room.check(list, document);
+        let calls = if answer.code == 0 { answer.detail } else { 0 };
+        let order: Vec<u32> = (0..calls).collect();
+        stack.taken(|| {
+            let [list_work, document_work] = &mut room.work;
+            library::order(list, document, list_work, document_work, &order);
+        })
+    });
+    keeps("order", taken.max(), library::ORDER_STACK)
 }
 
 /// Says what was measured, and whether it is within what is stated.
@@ -86,9 +126,10 @@ fn keeps(operation: &str, taken: Option<usize>, stated: usize) -> bool {
 }
 
 /// Lists and documents.
-fn pairs(seed: u64) -> Vec<(Vec<u8>, Vec<u8>)> {
+fn pairs(seed: u64) -> Vec<Texts> {
     let checked = check::cases::PAIRS.iter();
     let written = canon::cases::CASES.iter();
+    let ordered = order::cases::CASES.iter();
     let random = (0..RANDOM).map(|case| {
         let mut rng = Rng::for_case(seed, case);
         let (_, make) = rng.pick(SORTS);
@@ -100,6 +141,7 @@ fn pairs(seed: u64) -> Vec<(Vec<u8>, Vec<u8>)> {
     checked
         .map(|case| (case.list.bytes(), case.document.bytes()))
         .chain(written.map(|case| (case.list.bytes(), case.document.bytes())))
+        .chain(ordered.map(|case| (case.list.bytes(), case.document.bytes())))
         .chain(timed.map(|pair| (pair.list, pair.document)))
         .chain(NESTS.iter().map(|nest| deepest(*nest)))
         .chain(random)
@@ -116,7 +158,7 @@ const NESTS: &[Nest] = &[
 ];
 
 /// Eight nests in a parameter's type, its default, a result, an argument and a left side.
-fn deepest([ty, left, value]: Nest) -> (Vec<u8>, Vec<u8>) {
+fn deepest([ty, left, value]: Nest) -> Texts {
     let [ty, left] = [nested(ty, "tensor"), nested(left, "b")];
     let [default, argument] = [nested(value, "0"), nested(value, "a")];
     let external = "fragment external(shape: extent[]) -> (y: tensor)";

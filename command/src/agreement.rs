@@ -1,5 +1,5 @@
-//! The command's own reading held against the library: on damaged texts it finds the library's first fault, and words for it; on
-//! accepted ones it finds none, and reads the graph.
+//! The command's own reading held against the library: on damaged texts and orders it finds the library's first fault, and words for it;
+//! on accepted ones it finds none, and reads the graph.
 
 use crate::drawing;
 use crate::faults::further;
@@ -7,9 +7,10 @@ use crate::files::Source;
 use crate::hints::hint;
 use crate::message::{Origin, Painter};
 use crate::model;
+use crate::order::Order;
 use crate::paths;
 use crate::reader;
-use crate::rules::{document_faults, list_faults};
+use crate::rules::{document_faults, list_faults, order_faults};
 use crate::texts::Texts;
 use sluicegnome::{Code, Refusal, Text};
 
@@ -152,6 +153,47 @@ fn damaged_texts_get_the_library_s_fault_and_words() {
                 assert!(drawing::dot(&graph).ends_with("}\n") && drawing::svg(&graph).ends_with("</svg>\n"));
                 assert!(paths::paths(&graph, "epoch").words(&document.bytes, &graph).starts_with("epoch: "));
             }
+        }
+    }
+}
+
+/// Call numbers that are right, but for up to three that are exchanged, replaced or put in.
+fn damaged_order(numbers: &mut Numbers, calls: usize) -> Vec<usize> {
+    let mut order: Vec<usize> = (0..calls).collect();
+    for _ in 0..numbers.below(4) {
+        let [place, other] = [0; 2].map(|_| numbers.below(calls));
+        match numbers.below(8) {
+            0 => order.insert(place, other),
+            1 => order[place] = calls + other,
+            2 | 3 => order[place] = other,
+            _ => order.swap(place, other),
+        }
+    }
+    order
+}
+
+#[test]
+fn damaged_orders_get_the_library_s_fault_and_words() {
+    let mut numbers = Numbers(0x9E37_79B9_7F4A_7C15);
+    let painter = Painter { color: false };
+    let (list, document) = (source(LIST.into()), source(GRAPH.into()));
+    let checked = sluicegnome::check(&list.bytes, &document.bytes).expect("the graph is accepted");
+    for _ in 0..RUNS {
+        let written: Vec<String> = damaged_order(&mut numbers, checked.calls.len()).iter().map(usize::to_string).collect();
+        let file = source(written.join("\n").into_bytes());
+        let Ok(order) = Order::read(&file) else {
+            panic!("not read: {written:?}");
+        };
+        let texts = Texts::pair(&list, &document).with_order(&order);
+        let answer = sluicegnome::order(&list.bytes, &document.bytes, &order.calls());
+        let first = match order.numbers.len() == checked.calls.len() {
+            true => order_faults(&checked, &order.calls()).first().copied(),
+            false => Some(Refusal { code: Code::OrderLength, text: Text::None, position: 0, detail: 0 }),
+        };
+        assert_eq!(answer.err(), first, "{written:?}");
+        for fault in first.iter().copied().chain(first.iter().flat_map(|first| further(&texts, first))) {
+            let words = painter.message(&texts, &fault, &hint(&texts, &fault), Origin::Library);
+            assert!(words.contains("help:") && words.contains(&format!("text:{}:1: ", fault.position + 1)), "{words}");
         }
     }
 }

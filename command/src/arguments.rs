@@ -208,6 +208,7 @@ fn help(name: Option<&OsString>) -> Result<Line, Usage> {
 fn operands(entry: &Entry) -> &'static str {
     match (entry.verb, entry.operands.end()) {
         (Verb::Explain, _) => "one code",
+        (Verb::Order, _) => "a graph and an order",
         (Verb::Help, _) => "one command at most",
         (_, 1) if *entry.operands.start() == 0 => "one file at most",
         (_, 1) => "one file",

@@ -6,7 +6,7 @@ use crate::model::{self, Graph};
 use crate::report::Report;
 use crate::texts::Texts;
 use crate::verbs::Verb;
-use crate::{canon, check, diff, drawing, explain, paths, show, tables};
+use crate::{canon, check, diff, drawing, explain, order, paths, show, tables};
 use std::ffi::{OsStr, OsString};
 
 /// The operation list where none is named.
@@ -41,6 +41,7 @@ fn under_list(report: &mut Report, list: &Source, operands: &[OsString]) -> Resu
     match (report.arguments.verb, operands) {
         (Verb::Check, []) => check::list_alone(report, list),
         (Verb::Diff, [one, other]) => diff::compare(report, list, &files::read(one)?, &files::read(other)?),
+        (Verb::Order, [graph, numbers]) => order::judge(report, list, &files::read(graph)?, &files::read_order(numbers)?),
         (_, []) => graph_file(report, &Texts::pair(list, &files::read(OsStr::new("-"))?)),
         (_, files) => {
             for file in files {

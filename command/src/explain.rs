@@ -20,7 +20,7 @@ fn explained(place: &'static str, cause: impl Into<String>, mend: impl Into<Stri
 pub fn explain(report: &mut Report, word: &str) {
     let Some(code) = code_of(word) else {
         report.raise(USAGE);
-        report.messages += &format!("nnef: there is no code {word}; codes are 0 to {}\n", Code::ALL.len() - 1);
+        report.messages += &format!("nnef: there is no code {word}; codes are 0 to 26 and 41 to 44\n");
         return;
     };
     let explained = explanation(code);
@@ -57,7 +57,8 @@ pub fn explanation(code: Code) -> Explanation {
         11..=14 => of_headers(code),
         15..=20 => of_calls(code),
         21..=24 => of_wiring(code),
-        _ => of_canonical_text(code),
+        25 | 26 => of_canonical_text(code),
+        _ => of_order(code),
     }
 }
 
@@ -237,6 +238,31 @@ fn of_canonical_text(code: Code) -> Explanation {
             "no text",
             "a program lends the library an output that is too short",
             format!("lend {} bytes, which is always enough; the command does, so it never shows this code", limits::TEXT_BYTES),
+        ),
+    }
+}
+
+fn of_order(code: Code) -> Explanation {
+    match code {
+        Code::OrderLength => explained(
+            "the order's first place",
+            "a call was left out of the order or stands in it twice, or the order was made for another graph",
+            "write the number of every call once; `nnef calls` numbers them",
+        ),
+        Code::NoCall => explained(
+            "the number's place in the order",
+            "calls count from 0, so the last one is one less than there are; or the order was made for another graph",
+            "write the number of a call; `nnef calls` numbers them",
+        ),
+        Code::CallRepeated => explained(
+            "the later of the two places in the order",
+            "a number was copied, or stands where another one was meant",
+            "leave the call at one place, and put a call there that is missing",
+        ),
+        _ => explained(
+            "the using call's place in the order",
+            "the order does not follow the wires: the assigning call stands later, or nowhere",
+            "put the assigning call before the using one; `nnef calls` has the wires",
         ),
     }
 }

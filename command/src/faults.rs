@@ -1,19 +1,17 @@
 //! Every fault of the stage of the first one: the command's own reading, which is not proved. The first fault is the library's.
 
 use crate::reader;
-use crate::rules::{document_faults, list_faults};
+use crate::rules::{document_faults, list_faults, order_faults};
 use crate::texts::{tokens, Texts};
 use sluicegnome::{Code, Refusal, Text};
 
 /// The faults of the first one's stage that stand behind it.
 pub fn further(texts: &Texts, first: &Refusal) -> Vec<Refusal> {
-    let Some(source) = texts.source(first.text) else {
-        return Vec::new();
-    };
-    let found = match first.code.number() {
-        3..=7 => of_bytes(&source.bytes, first),
-        9 | 10 => of_syntax(&source.bytes, first.text),
-        11.. => of_rules(texts, first.text),
+    let found = match (first.code.number(), texts.source(first.text)) {
+        (42.., _) => of_order(texts),
+        (3..=7, Some(source)) => of_bytes(&source.bytes, first),
+        (9 | 10, Some(source)) => of_syntax(&source.bytes, first.text),
+        (11.., Some(_)) => of_rules(texts, first.text),
         _ => Vec::new(),
     };
     let place = |fault: &Refusal| (fault.position, fault.code);
@@ -64,6 +62,14 @@ fn of_rules(texts: &Texts, which: Text) -> Vec<Refusal> {
     match (which, texts.operations(), texts.tree()) {
         (Text::List, Some(list), _) => list_faults(&list),
         (Text::Document, Some(list), Some(tree)) => document_faults(&list, &tree),
+        _ => Vec::new(),
+    }
+}
+
+fn of_order(texts: &Texts) -> Vec<Refusal> {
+    let checked = sluicegnome::check(&texts.list.bytes, &texts.subject().bytes);
+    match (checked, texts.order) {
+        (Ok(checked), Some(order)) => order_faults(&checked, &order.calls()),
         _ => Vec::new(),
     }
 }

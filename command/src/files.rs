@@ -18,8 +18,25 @@ pub struct Source {
 /// What could not be read or written, in a sentence.
 pub struct Trouble(pub String);
 
-/// Reads a file, or standard input for `-`. One byte more than a text may have is enough to see that it is too long.
+/// The longest order that is read: there is room for a comment on each number.
+const ORDER_BYTES: usize = 1 << 20;
+
+/// Reads a text. One byte more than it may have is enough to see that it is too long.
 pub fn read(path: &OsStr) -> Result<Source, Trouble> {
+    read_at_most(path, limits::TEXT_BYTES + 1)
+}
+
+/// Reads an order whole.
+pub fn read_order(path: &OsStr) -> Result<Source, Trouble> {
+    let source = read_at_most(path, ORDER_BYTES + 1)?;
+    match source.bytes.len() > ORDER_BYTES {
+        true => Err(Trouble(format!("cannot read {}: an order has at most {ORDER_BYTES} bytes", source.name))),
+        false => Ok(source),
+    }
+}
+
+/// Reads the first bytes of a file, or of standard input for `-`.
+fn read_at_most(path: &OsStr, length: usize) -> Result<Source, Trouble> {
     let standard = path == "-";
     let name = match standard {
         true => "standard input".to_string(),
@@ -27,7 +44,7 @@ pub fn read(path: &OsStr) -> Result<Source, Trouble> {
     };
     let file = if standard { standard_input() } else { File::open(path) };
     let mut bytes = Vec::new();
-    match file.and_then(|file| file.take(limits::TEXT_BYTES as u64 + 1).read_to_end(&mut bytes)) {
+    match file.and_then(|file| file.take(length as u64).read_to_end(&mut bytes)) {
         Ok(_) => Ok(Source { name, bytes }),
         Err(error) => Err(Trouble(format!("cannot read {name}: {}", reason(&error)))),
     }

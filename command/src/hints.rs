@@ -4,6 +4,7 @@ mod bytes;
 mod document;
 mod habits;
 mod list;
+mod order;
 mod syntax;
 
 use crate::explain::explanation;
@@ -66,6 +67,9 @@ pub fn hint(texts: &Texts, fault: &Refusal) -> Hint {
 
 fn particular(texts: &Texts, fault: &Refusal) -> Hint {
     let plain = Hint::plain(fault);
+    if let Some(order) = texts.order.filter(|_| fault.code.is_of_order()) {
+        return order::hint(plain, texts, order, fault);
+    }
     let Some(source) = texts.source(fault.text) else {
         return plain;
     };

@@ -22,6 +22,7 @@ mod message;
 mod model;
 mod near;
 mod number;
+mod order;
 mod paths;
 mod place;
 mod reader;

@@ -1,7 +1,9 @@
 //! Refusals as people read them: file, line and column, a sentence, the source line with a caret, cause and help.
 
 use crate::escape::escaped;
+use crate::files::Source;
 use crate::hints::Hint;
+use crate::order::Misspelt;
 use crate::place::{line_bounds, place};
 use crate::texts::Texts;
 use sluicegnome::Refusal;
@@ -41,12 +43,12 @@ impl Painter {
             Origin::Reading => " (a second reading, not proved)",
         };
         let sentence = self.paint("1", &hint.sentence);
-        let mut message = match texts.source(fault.text) {
+        let mut message = match texts.pointed(fault) {
             None => format!("{}: {code}: {sentence}{mark}\n", texts.subject().name),
-            Some(source) => {
-                let at = place(&source.bytes, fault.position);
+            Some((source, position)) => {
+                let at = place(&source.bytes, position);
                 let head = format!("{}:{}:{}: {code}: {sentence}{mark}\n", source.name, at.line, at.column);
-                head + &self.excerpt(&source.bytes, fault.position, hint.length)
+                head + &self.excerpt(&source.bytes, position, hint.length)
             }
         };
         message += &format!("  {} {}\n", self.paint("36", "cause:"), hint.cause);
@@ -54,6 +56,16 @@ impl Painter {
             message += &format!("  {} {help}\n", self.paint("32", "help:"));
         }
         message
+    }
+
+    /// The whole message of what stands in an order and is no number.
+    pub fn misspelt(&self, source: &Source, misspelt: &Misspelt) -> String {
+        let Misspelt { sentence, start, end } = misspelt;
+        let at = place(&source.bytes, *start);
+        let (error, sentence) = (self.paint("1;31", "error"), self.paint("1", sentence));
+        let head = format!("{}:{}:{}: {error}: {sentence}\n", source.name, at.line, at.column);
+        let help = "write call numbers in decimal, with white space between them; `#` begins a comment";
+        head + &self.excerpt(&source.bytes, *start, end - start) + &format!("  {} {help}\n", self.paint("32", "help:"))
     }
 
     /// The source line, and carets under what is at fault. Before a blank line stands the last one that is not blank.

@@ -136,9 +136,8 @@ fn call(operation: &Operation, written: &tree::Call, canonical: Option<&tree::Ca
             uses: spellings(&value.names()),
         });
     }
-    let left = spelled(&written.left, &str::to_string);
     Some(Call {
-        left: if matches!(written.left.form, Form::Tuple(_)) { left[1..left.len() - 1].to_string() } else { left },
+        left: left_side(&written.left),
         assigned: spellings(&written.assigned()),
         operation: operation.name.spelling.to_string(),
         position: written.operation.position,
@@ -146,6 +145,15 @@ fn call(operation: &Operation, written: &tree::Call, canonical: Option<&tree::Ca
         sources: Vec::new(),
         line: String::new(),
     })
+}
+
+/// A left side in canonical spelling: its top tuple is bare.
+pub fn left_side(left: &Value) -> String {
+    let spelt = spelled(left, &str::to_string);
+    match left.form {
+        Form::Tuple(_) => spelt[1..spelt.len() - 1].to_string(),
+        _ => spelt,
+    }
 }
 
 fn spellings(names: &[Name]) -> Vec<String> {

@@ -2,12 +2,13 @@
 
 use crate::arguments::{Arguments, Color};
 use crate::faults;
-use crate::files::{self, Trouble};
+use crate::files::{self, Source, Trouble};
 use crate::hints::hint;
 use crate::json::Json;
 use crate::message::{Origin, Painter};
 use crate::model::{Failure, Graph};
 use crate::number::counted;
+use crate::order::Misspelt;
 use crate::place::place;
 use crate::texts::Texts;
 use sluicegnome::Refusal;
@@ -53,6 +54,12 @@ impl<'a> Report<'a> {
     pub fn trouble(&mut self, trouble: &Trouble) {
         self.raise(TROUBLE);
         self.messages += &format!("nnef: {}\n", trouble.0);
+    }
+
+    /// An order that cannot be read: something in it is no number.
+    pub fn misspelt(&mut self, source: &Source, misspelt: &Misspelt) {
+        self.raise(TROUBLE);
+        self.messages += &self.painter.misspelt(source, misspelt);
     }
 
     /// What a reading makes of an accepted document; a refusal is reported.
@@ -129,7 +136,8 @@ impl<'a> Report<'a> {
             self.messages += &self.painter.message(texts, fault, &hint(texts, fault), Origin::Reading);
         }
         let more = counted(further.len(), "more fault");
-        self.messages += &format!("{}: {more} of the same stage, by a second reading that is not proved\n", texts.subject().name);
+        let subject = texts.order.map_or(texts.subject(), |order| order.source);
+        self.messages += &format!("{}: {more} of the same stage, by a second reading that is not proved\n", subject.name);
     }
 
     fn json(&mut self, texts: &Texts, verdict: &str, numbers: [u32; 4], fields: Vec<(&'static str, Json)>) {
@@ -159,14 +167,17 @@ pub fn finish(mut report: Report) -> u8 {
 fn fault_json(texts: &Texts, fault: &Refusal, proved: bool) -> Json {
     let words = hint(texts, fault);
     let mut fields = vec![("code", Json::Number(fault.code.number() as usize)), ("name", Json::text(fault.code.name()))];
-    if let Some(source) = texts.source(fault.text) {
-        let at = place(&source.bytes, fault.position);
+    if let Some((source, position)) = texts.pointed(fault) {
+        let at = place(&source.bytes, position);
         fields.extend([
             ("file", Json::text(&source.name)),
-            ("position", Json::Number(fault.position)),
+            ("position", Json::Number(position)),
             ("line", Json::Number(at.line)),
             ("column", Json::Number(at.column)),
         ]);
+    }
+    if fault.code.is_of_order() {
+        fields.push(("place", Json::Number(fault.position)));
     }
     fields.extend([
         ("sentence", Json::text(words.sentence)),

@@ -1,8 +1,9 @@
-//! The rules of lists and documents, every fault of them: the command's own reading, which is not proved.
+//! The rules of lists, documents and orders, every fault of them: the command's own reading, which is not proved.
 
 use crate::fitting::{bindings, first_unbound, fits, Binding};
+use crate::order::uses;
 use crate::tree::{Call, Document, Name, Operation};
-use sluicegnome::{limits, Code, Refusal, Text};
+use sluicegnome::{limits, Checked, Code, Refusal, Text};
 use std::collections::{HashMap, HashSet};
 
 /// Every fault of a list.
@@ -41,6 +42,23 @@ pub fn document_faults(list: &[Operation], document: &Document) -> Vec<Refusal> 
     }
     faults.wiring(document);
     faults.ends(document);
+    faults.sorted()
+}
+
+/// Every fault of an order that has as many numbers as the graph has calls; of each number the one with the smallest code.
+pub fn order_faults(checked: &Checked, order: &[u32]) -> Vec<Refusal> {
+    let mut faults = Faults::new(Text::None);
+    let uses = uses(checked);
+    let mut before = HashSet::new();
+    for (place, call) in order.iter().map(|call| *call as usize).enumerate() {
+        match uses.get(call) {
+            None => faults.add(Code::NoCall, place),
+            Some(_) if before.contains(&call) => faults.add(Code::CallRepeated, place),
+            Some(uses) if uses.iter().any(|wire| !before.contains(&wire.from)) => faults.add(Code::UseTooEarly, place),
+            Some(_) => {}
+        }
+        before.insert(call);
+    }
     faults.sorted()
 }
 

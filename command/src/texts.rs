@@ -1,24 +1,38 @@
 //! The texts that are judged together, and what a reading of them gives.
 
 use crate::files::Source;
+use crate::order::Order;
 use crate::reader;
 use crate::tree::{Document, Operation};
-use sluicegnome::{Text, Token};
+use sluicegnome::{Refusal, Text, Token};
 
-/// An operation list and a document under it, or a sole text, which stands in the place of the list.
+/// An operation list and a document under it, perhaps with an order of its calls; or a sole text, which stands in the place of the list.
 #[derive(Clone, Copy)]
 pub struct Texts<'a> {
     pub list: &'a Source,
     pub document: Option<&'a Source>,
+    pub order: Option<&'a Order<'a>>,
 }
 
 impl<'a> Texts<'a> {
     pub fn sole(text: &'a Source) -> Texts<'a> {
-        Texts { list: text, document: None }
+        Texts { list: text, document: None, order: None }
     }
 
     pub fn pair(list: &'a Source, document: &'a Source) -> Texts<'a> {
-        Texts { list, document: Some(document) }
+        Texts { list, document: Some(document), order: None }
+    }
+
+    pub fn with_order(self, order: &'a Order<'a>) -> Texts<'a> {
+        Texts { order: Some(order), ..self }
+    }
+
+    /// The file that a fault points into, and where, in bytes: the text of its answer, or the file of the order.
+    pub fn pointed(&self, fault: &Refusal) -> Option<(&'a Source, usize)> {
+        match self.order {
+            Some(order) if fault.code.is_of_order() => Some((order.source, order.bounds(fault.position).0)),
+            _ => self.source(fault.text).map(|source| (source, fault.position)),
+        }
     }
 
     /// The text that an answer names.

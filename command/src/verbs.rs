@@ -13,6 +13,7 @@ pub enum Verb {
     Graph,
     Tokens,
     Calls,
+    Order,
     Explain,
     Help,
 }
@@ -51,7 +52,7 @@ impl Entry {
     }
 }
 
-pub static ENTRIES: [Entry; 11] = [
+pub static ENTRIES: [Entry; 12] = [
     Entry {
         verb: Verb::Check,
         name: "check",
@@ -148,11 +149,22 @@ pub static ENTRIES: [Entry; 11] = [
         operands: 1..=1,
     },
     Entry {
+        verb: Verb::Order,
+        name: "order",
+        usage: "order [-l LIST] FILE ORDERFILE",
+        summary: "whether an order has each call of a graph once, and after what it uses",
+        more: "ORDERFILE has a number for each call, in decimal, with white space between them; a comment runs from # to the end of its line.\n\
+               Calls have the numbers that `nnef calls` gives them. Calls and places of the order count from 0.",
+        reads: Reads::Graphs,
+        options: &[],
+        operands: 2..=2,
+    },
+    Entry {
         verb: Verb::Explain,
         name: "explain",
         usage: "explain CODE",
         summary: "what a code means, its likely cause and its mend",
-        more: "CODE is a number from 0 to 26, E and the number, or a name such as UNDECLARED.",
+        more: "CODE is a number from 0 to 26 or 41 to 44, E and the number, or a name such as UNDECLARED.",
         reads: Reads::Nothing,
         options: &["--json", "--color"],
         operands: 1..=1,
@@ -193,7 +205,7 @@ pub fn overview() -> String {
     for entry in &ENTRIES {
         text += &format!("  nnef {:<44} {}\n", entry.usage, entry.summary);
     }
-    text + &format!("\n{OPTIONS}\n\nFILE may be - for standard input.\n{STATUS}\n")
+    text + &format!("\n{OPTIONS}\n\nFILE, or ORDERFILE, may be - for standard input.\n{STATUS}\n")
 }
 
 /// The help on one command.

@@ -52,3 +52,11 @@ pub const NO_OUTPUT: u32 = 24;
 pub const CANONICAL_TOO_LONG: u32 = 25;
 /// The lent output is shorter than the canonical text.
 pub const OUTPUT_TOO_SHORT: u32 = 26;
+/// An order has more or fewer numbers than the graph has calls.
+pub const ORDER_LENGTH: u32 = 41;
+/// A number of an order is no call of the graph.
+pub const NO_CALL: u32 = 42;
+/// A number of an order stands at an earlier place too.
+pub const CALL_REPEATED: u32 = 43;
+/// A call uses an identifier whose assigning call stands at no earlier place.
+pub const USE_TOO_EARLY: u32 = 44;

@@ -11,6 +11,7 @@ mod lexer;
 mod limits;
 mod names;
 mod number;
+mod order;
 mod parser;
 mod plan;
 mod rules_document;
@@ -37,7 +38,7 @@ pub struct Answer {
     pub code: u32,
     /// 0 for no text, 1 for the operation list or the sole text, 2 for the document.
     pub text: u32,
-    /// The fault's place in that text, in bytes.
+    /// The fault's place in that text, in bytes; at codes 41 to 44 the place in the order.
     pub position: u32,
     /// The count after acceptance; at code 19 the parameter's index; at code 26
     /// the canonical text's length; else 0.
@@ -163,6 +164,27 @@ pub fn canon(
             }
             out[..text.len()].copy_from_slice(&text);
             Answer::accepted(text.len())
+        },
+    )
+}
+
+/// Judges an order of the calls of a document under an operation list, and counts
+/// them. The order may have any length. The work areas are zero afterwards, but
+/// for codes 1 and 2, which leave them as they were.
+pub fn order(
+    list: &[u8],
+    document: &[u8],
+    list_work: &mut [u32],
+    document_work: &mut [u32],
+    order: &[u32],
+) -> Answer {
+    judged(
+        list,
+        document,
+        [list_work, document_work],
+        |_, _, graph| match order::keep(graph, order) {
+            Err(fault) => Answer::refused(NO_TEXT, fault),
+            Ok(()) => Answer::accepted(graph.calls.len()),
         },
     )
 }

@@ -8,6 +8,7 @@ mod good;
 mod limits;
 mod literal;
 mod model;
+mod nets;
 mod pairs;
 mod plan;
 mod rng;
@@ -15,6 +16,6 @@ mod sizes;
 mod spelling;
 
 pub use damage::{damage_bytes, SYMBOLS};
-pub use pairs::{family, Family, Pair, GOOD_SORTS, SORTS};
+pub use pairs::{family, net_pair, Family, Pair, GOOD_SORTS, SORTS};
 pub use rng::Rng;
 pub use spelling::{gap, join, Lines, WORD_BYTES};

@@ -6,11 +6,15 @@ use crate::deep::deep;
 use crate::good::{self, Names};
 use crate::limits::near_limits;
 use crate::model::{self, Document, Operation};
+use crate::nets::net;
 use crate::plan::{canonical_text, respelt, respelt_list, Canonical};
 use crate::rng::Rng;
 use crate::sizes::near_sizes;
 use crate::spelling::{spell, Lines, Role, Word};
 use std::collections::HashMap;
+
+/// Bytes of a text, at most.
+const TEXT_BYTES: usize = 16_384;
 
 pub struct Pair {
     pub list: Vec<u8>,
@@ -77,6 +81,24 @@ fn good_pair(rng: &mut Rng, lines: Lines) -> Pair {
 fn pair_near_limits(rng: &mut Rng, lines: Lines) -> Pair {
     let (list, document) = near_limits(rng);
     known_pair(rng, lines, &list, &document)
+}
+
+/// A good pair with many calls and wires. If it is longer than a text may be, it
+/// is made anew with half the calls.
+pub fn net_pair(rng: &mut Rng, lines: Lines) -> Pair {
+    let mut calls = match rng.below(20) {
+        0..=9 => rng.between(2, 24),
+        10..=15 => rng.between(25, 120),
+        _ => rng.between(121, 384),
+    };
+    loop {
+        let (list, document) = net(rng, calls);
+        let pair = known_pair(rng, lines, &list, &document);
+        if pair.document.len() <= TEXT_BYTES {
+            return pair;
+        }
+        calls /= 2;
+    }
 }
 
 /// Two pairs that say the same, and one that says something else.

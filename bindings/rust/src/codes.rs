@@ -62,6 +62,10 @@ codes! {
     Unmade UNMADE "the output is never assigned"
     CanonTooLong CANON_TOO_LONG "the canonical text has more than 16384 bytes or 4096 tokens"
     OutTooShort OUT_TOO_SHORT "the lent output is shorter than the canonical text"
+    OrderLength ORDER_LENGTH "the order has more or fewer numbers than the graph has calls"
+    NoCall NO_CALL "the graph has no call of this number"
+    CallRepeated CALL_REPEATED "the call stands at an earlier place too"
+    UseTooEarly USE_TOO_EARLY "the call uses an identifier whose assigning call stands at no earlier place"
 }
 
 impl Code {
@@ -71,7 +75,12 @@ impl Code {
 
     /// The code with this number.
     pub fn from_number(number: u32) -> Option<Code> {
-        Code::ALL.get(number as usize).copied()
+        Code::ALL.iter().copied().find(|code| code.number() == number)
+    }
+
+    /// Whether it is a fault of an order, whose position is a place in that order.
+    pub fn is_of_order(self) -> bool {
+        self >= Code::OrderLength
     }
 }
 
@@ -86,11 +95,15 @@ mod tests {
     use super::Code;
 
     #[test]
-    fn numbers_are_places() {
-        for (place, code) in Code::ALL.iter().enumerate() {
-            assert_eq!(code.number() as usize, place);
+    fn numbers_rise() {
+        let numbers: Vec<u32> = Code::ALL.iter().map(|code| code.number()).collect();
+        assert_eq!(numbers, (0..=26).chain(41..=44).collect::<Vec<u32>>());
+        for code in Code::ALL {
             assert_eq!(Code::from_number(code.number()), Some(*code));
+            assert_eq!(code.is_of_order(), code.number() > 26);
         }
-        assert_eq!(Code::from_number(Code::ALL.len() as u32), None);
+        for number in [27, 40, 45, u32::MAX] {
+            assert_eq!(Code::from_number(number), None);
+        }
     }
 }

@@ -116,6 +116,35 @@ pub fn canon(list: &[u8], document: &[u8]) -> Result<Vec<u8>, Refusal> {
     Ok(out)
 }
 
+/// How many calls a document has under a list, if this is an order of them: each call once, and after the calls that assign what it
+/// uses. Calls count from 0, as they stand in the document and in [`Checked::calls`].
+///
+/// ```
+/// use sluicegnome::Code;
+///
+/// # let list = b"fragment external(shape: extent[]) -> (output: tensor) fragment add(x: tensor, y: tensor) -> (z: tensor)";
+/// let graph = b"version 1.0 graph g(a, b) -> (c) { a = external(shape=[1]) b = external(shape=[1]) c = add(a, b) }";
+/// assert_eq!(sluicegnome::order(list, graph, &[1, 0, 2]), Ok(3));
+///
+/// let fault = |order: &[u32]| {
+///     let refusal = sluicegnome::order(list, graph, order).unwrap_err();
+///     (refusal.code, refusal.position)
+/// };
+/// assert_eq!(fault(&[1, 0]), (Code::OrderLength, 0));
+/// assert_eq!(fault(&[1, 0, 3]), (Code::NoCall, 2));
+/// assert_eq!(fault(&[1, 1, 2]), (Code::CallRepeated, 1));
+/// assert_eq!(fault(&[1, 2, 0]), (Code::UseTooEarly, 1));
+///
+/// let refusal = sluicegnome::order(list, graph, &[1, 2, 0]).unwrap_err();
+/// assert_eq!(
+///     refusal.to_string(),
+///     "the call uses an identifier whose assigning call stands at no earlier place (place 1 of the order)"
+/// );
+/// ```
+pub fn order(list: &[u8], document: &[u8], order: &[u32]) -> Result<usize, Refusal> {
+    refusal::result(raw::order(list, document, &mut work_area(), &mut work_area(), order))
+}
+
 fn work_area() -> Vec<u32> {
     vec![0; raw::WORK_WORDS]
 }

@@ -9,7 +9,7 @@ use std::fmt;
 #[derive(Clone, Copy, Debug, PartialEq, Eq, Hash)]
 #[repr(u32)]
 pub enum Text {
-    /// In none: there was too little room.
+    /// In none: there was too little room, or the fault is in an order.
     None = 0,
     /// In the operation list, or in the sole text.
     List = 1,
@@ -17,13 +17,14 @@ pub enum Text {
     Document = 2,
 }
 
-/// The first fault of a text, or of two.
+/// The first fault of a text, of two, or of an order.
 #[derive(Clone, Copy, Debug, PartialEq, Eq, Hash)]
 pub struct Refusal {
     /// What is wrong; never [`Code::Accepted`].
     pub code: Code,
     pub text: Text,
-    /// The fault's place in that text, in bytes from 0.
+    /// The fault's place in that text, in bytes from 0. With [`Code::OrderLength`], [`Code::NoCall`], [`Code::CallRepeated`] and
+    /// [`Code::UseTooEarly`] it is the place in the order, from 0.
     pub position: usize,
     /// With [`Code::Missing`] the parameter's index, with [`Code::OutTooShort`] the length of the canonical text, else 0.
     pub detail: usize,
@@ -40,6 +41,7 @@ impl fmt::Display for Refusal {
     fn fmt(&self, f: &mut fmt::Formatter) -> fmt::Result {
         let place = self.position;
         match self.text {
+            Text::None if self.code.is_of_order() => write!(f, "{} (place {place} of the order)", self.code.text()),
             Text::None => write!(f, "{}", self.code.text()),
             Text::List => write!(f, "{} (byte {place} of the first text)", self.code.text()),
             Text::Document => write!(f, "{} (byte {place} of the document)", self.code.text()),

@@ -11,7 +11,7 @@ use native.Mathlib.Nat.{zero-add}
 use borrow.Author.Tests.{le-leb, lt-leb, leb-true}
 use lib.Dec.{leb}
 use lib.ListN.{length, getD, take, replicate}
-use Rattle.lexis.specs.Sizes.{maxText, maxTokens, maxCalls, workWords}
+use Rattle.lexis.specs.Sizes.{maxText, maxTokens, maxCalls}
 use Rattle.lexis.specs.Bytes.{classTable}
 use Rattle.lexis.specs.Code as L
 use Rattle.lexis.specs.Answer.{answer}
@@ -226,11 +226,6 @@ module _ {list doc work₁ work₂ words records : List ℕ} {z : Sizes} (b : Te
 module _ (list doc work₁ work₂ out : List ℕ) where
   abbrev room : CanonRoom
   room = canonRoom work₁ work₂ out
-
-  pub room-parts : canonServes room ≡ true → (workWords ≤ length work₁) × (workWords ≤ length work₂)
-  room-parts e =
-      let a = and-eq-true-iff (leb workWords (length work₁)) (leb workWords (length work₂)) .0 e in
-      (leb-true workWords (length work₁) (a .0), leb-true workWords (length work₂) (a .1))
 
   -- what canon ensures of its answer, of the output and of both work areas afterwards
   abbrev Ensured : Answer → List ℕ → List ℕ → List ℕ → Type 0

@@ -28,7 +28,7 @@ use Rattle.canonical.proofs.Alike.{CallAlike, Alike, none-alike, more-a
 
 -- ---- 11, 15 to 20: no rule of their own
 
-version-clean : {hs : List Header} {p : Plan} {t : Document} → CanonDocument hs p t → badVersion t ≡ []
+pub version-clean : {hs : List Header} {p : Plan} {t : Document} → CanonDocument hs p t → badVersion t ≡ []
 unfolding badVersion sameBytes
 version-clean k = simp (k .version)
 
@@ -52,6 +52,15 @@ calls-clean : {hs : List Header} (f : Call → List Fault) → ((c : PlanCall) (
 unfolding flatMap
 calls-clean f h no-calls = refl
 calls-clean f h (a-call {c} {t} k ks) = simp (h c t k, calls-clean f h ks)
+
+pub all-declared : {hs : List Header} {ps : List PlanCall} {ts : List Call} → CanonCalls hs ps ts → flatMap (undeclared hs) ts ≡ []
+all-declared {hs} ks = calls-clean (undeclared hs) (λ c t k. call-declared k) ks
+
+pub all-bound : {hs : List Header} {ps : List PlanCall} {ts : List Call} → CanonCalls hs ps ts → flatMap (argumentFaults hs) ts ≡ []
+all-bound {hs} ks = calls-clean (argumentFaults hs) (λ c t k. call-bound k) ks
+
+pub all-matched : {hs : List Header} {ps : List PlanCall} {ts : List Call} → CanonCalls hs ps ts → flatMap (unmatched hs) ts ≡ []
+all-matched {hs} ks = calls-clean (unmatched hs) (λ c t k. call-matched k) ks
 
 -- ---- 13, 21
 
@@ -134,9 +143,9 @@ canon-clean list hs d t p l h e k =
     (a-part
     (repeats-kept 13 (d .inputs ++ d .outputs) (t .inputs ++ t .outputs)
     (append-same (d .inputs) (d .outputs) (t .inputs) (t .outputs) (a .inputs) (a .outputs)))
-    (a-part (λ z. calls-clean (undeclared hs) (λ c u q. call-declared q) (k .calls))
-    (a-part (λ z. calls-clean (argumentFaults hs) (λ c u q. call-bound q) (k .calls))
-    (a-part (λ z. calls-clean (unmatched hs) (λ c u q. call-matched q) (k .calls))
+    (a-part (λ z. all-declared (k .calls))
+    (a-part (λ z. all-bound (k .calls))
+    (a-part (λ z. all-matched (k .calls))
     (a-part (repeats-kept 21 (allAssigned (d .calls)) (allAssigned (t .calls)) (calls-assign (a .calls)))
     (a-part (wired-kept [] [] refl (a .calls))
     (a-part (fed-kept d t a)

@@ -1,5 +1,5 @@
--- The canonical text of a plan that fits is lexed to the tokens of its pieces (`lex-canonical`). In order: marks, words, values, names,
--- arguments, left sides, calls, the document.
+-- The canonical text of a plan that fits is lexed to the tokens of its pieces (`lex-canonical`), which stand in their places whatever their
+-- number (`placed-canonical`). In order: marks, words, values, names, arguments, left sides, calls, the document.
 use mathlib.Core.Path.{_≡_, refl, sym, ap, _∙_}
 use mathlib.Core.Bool.{Bool, true, false, cond, and-true}
 use mathlib.Core.List.{List, [], _∷_}
@@ -17,7 +17,7 @@ use Rattle.lexis.specs.Bytes.{classOf, isNamePart, isContent, spanLen}
 use Rattle.lexis.specs.Words.{sameBytes, words, kindIn, kindOfWord}
 use Rattle.lexis.specs.Number.{Reduced}
 use Rattle.lexis.specs.Code as Code
-use Rattle.lexis.specs.Lexer.{Token, accepted, refused, lex}
+use Rattle.lexis.specs.Lexer.{Token, accepted, refused, lex, Placed}
 use Rattle.syntax.specs.Tree.{Ty, Tys, Param, Header}
 use Rattle.syntax.specs.Grammar.{Leaves, both}
 use Rattle.lists.specs.Reading.{isExtent, Val, Vals}
@@ -26,15 +26,16 @@ use Rattle.writing.specs.Spelling.{decimal, spellNumber, holdsSingle, quoteFor,
 use Rattle.writing.specs.Pieces.{Piece, text, tokensAt}
 use Rattle.writing.specs.Layout.{piece, spaced, namePiece, mark, signPieces, unsignedOf, pieces, items, moreItems, leftPieces, moreNamesPieces}
 use Rattle.writing.specs.Layout.{namesPieces, argumentPieces, moreArgumentsPieces, argumentsPieces, callPieces, callsPieces, documentPieces, canonical}
-use Rattle.writing.proofs.Fit.{All, none, more, IsWord, IsName, IsNumber, IsText, Fits, fit-name, fit-number, fit-scalar, fit-extent, fit-string}
-use Rattle.writing.proofs.Fit.{fit-logical, fit-truth, fit-array, fit-tuple, FitsAll, all-none, all-more, FitsEach, each-none, each-more, LeftFits}
+use Rattle.writing.specs.Fit.{All, none, more, IsWord, IsName, IsNumber, IsText, Fits, fit-name, fit-number, fit-scalar, fit-extent, fit-string}
+use Rattle.writing.specs.Fit.{fit-logical, fit-truth, fit-array, fit-tuple, FitsAll, all-none, all-more, FitsEach, each-none, each-more}
+use Rattle.writing.proofs.Fit.{LeftFits}
 use Rattle.writing.proofs.Fit.{alone, several, FitsParams, no-param, a-param, CallFits, CallsFit, one-call, more-calls, NamesFit, one-name}
 use Rattle.writing.proofs.Fit.{more-names, PlanFits}
 use Rattle.writing.proofs.Found.{params-found}
 use Rattle.writing.proofs.Runs.{next, span-all, differs}
 use Rattle.canonical.proofs.Digits.{are-digits}
 use Rattle.canonical.proofs.Numbers.{Apart}
-use Rattle.canonical.proofs.Lexing.{isSpace, Lexes, Chain, nil, link, lex-again, lex-too-many, Begins, begins, begins-append, digits-begin}
+use Rattle.canonical.proofs.Lexing.{isSpace, Lexes, Chain, nil, link, lex-again, chain-placed, lex-too-many, Begins, begins, begins-append, digits-begin}
 use Rattle.canonical.proofs.Lexing.{word-begins, number-begins}
 use Rattle.canonical.proofs.Lexing.{word-lexes, whole-lexes, number-lexes, string-lexes, mark-lexes, equals-lexes, sign-lexes, arrow-lexes}
 use Rattle.canonical.proofs.Lexing.{version-lexes}
@@ -232,6 +233,11 @@ pub lex-canonical : (hs : List Header) (p : Plan) → PlanFits hs p → length (
     → lex (canonical hs p) ≡ accepted (tokensAt 0 (documentPieces hs p))
 unfolding canonical
 lex-canonical hs p f h = lex-again 0 0 (document-chain f) (omega arith)
+
+-- the tokens of its pieces stand in their places, however many they are
+pub placed-canonical : (hs : List Header) (p : Plan) → PlanFits hs p → Placed (canonical hs p) 0 (tokensAt 0 (documentPieces hs p))
+unfolding canonical
+placed-canonical hs p f = chain-placed (text (documentPieces hs p)) 0 none (document-chain f) refl (omega arith)
 
 -- where there are more pieces than a text may have tokens, it is refused with code 8
 pub lex-over : (hs : List Header) (p : Plan) → PlanFits hs p → maxTokens < length (documentPieces hs p)

@@ -1,4 +1,4 @@
--- Lists that are empty where others are: two of them in a row, then any number.
+-- Lists that are empty where others are: two of them in a row, then any number. At the end empty lists in a row.
 use mathlib.Core.Path.{_≡_, refl}
 use mathlib.Core.List.{List, [], _∷_, _++_, flatten, cons≢nil}
 
@@ -19,3 +19,13 @@ pub row-keeps : {A : Type 0} {xss yss : List (List A)} → Row xss yss → Empty
 unfolding flatten
 row-keeps no-part h = h
 row-keeps (a-part {xs} {xss = xss} f r) h = both-keep xs (flatten xss) f (row-keeps r) h
+
+-- empty lists in a row
+pub data AllEmpty {A : Type 0} : List (List A) → Type 0 where
+  no-list : AllEmpty []
+  a-list : {xs : List A} {xss : List (List A)} → xs ≡ [] → AllEmpty xss → AllEmpty (xs ∷ xss)
+
+pub all-empty : {A : Type 0} {xss : List (List A)} → AllEmpty xss → flatten xss ≡ []
+unfolding flatten
+all-empty no-list = refl
+all-empty (a-list e h) = rw (e, all-empty h)

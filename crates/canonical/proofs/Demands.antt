@@ -1,4 +1,4 @@
--- The three demands, clause by clause and in their order, for the four operations: statements, each proved in a file that is named at its
+-- The three demands, clause by clause and in their order, for the five operations: statements, each proved in a file that is named at its
 -- `use`. What the words mean stands in specs/: answers and lent words afterwards in `Answer` of each crate, acceptance in `Accepted`
 -- of `lists` and `documents`, the first fault in `Fault` of `lists`, the table of codes in `CodeTable`, plans and canonical texts in `Plan`
 -- and `Layout`. `docs/DEMANDS.md` reads this page aloud.
@@ -36,35 +36,43 @@ use Rattle.documents.specs.Wired.{AssignedBy}
 use Rattle.documents.specs.Answer.{CheckRoom, checkRoom, checkServes, checked, checkAnswer, callsAfter, wiresAfter}
 use Rattle.documents.specs.Accepted.{AcceptedDocument}
 use Rattle.documents.proofs.Theorems as Documents
+use Rattle.orders.specs.Order.{needs}
+use Rattle.orders.specs.Answer.{OrderRoom, orderRoom, orderServes, orderAnswer}
+use Rattle.orders.specs.InOrder.{InOrder, FirstAtFault}
+use Rattle.orders.proofs.Theorems as Orders
 use Rattle.canonical.specs.Code as Writing
 use Rattle.writing.specs.Plan.{Plan}
 use Rattle.writing.specs.Layout.{documentPieces, canonical}
 use Rattle.canonical.specs.Answer.{canonServes}
 use Rattle.canonical.specs.Demand.{HasPlan, Keeps, Lent, roomOf, Serves, numbers, output, bytesWritten, IsGuard}
-use Rattle.canonical.specs.CodeTable.{InTable, TokenCount, OperationCount, CallCount, CanonicalLength, NoText}
+use Rattle.canonical.specs.CodeTable.{InTable, TokenCount, OperationCount, CallCount, CanonicalLength, NoText, NoOrder, TheOrder}
 use Rattle.canonical.proofs.InTables as InTables
 use Rattle.canonical.proofs.Theorems as Canonical
 use Rattle.canonical.proofs.Answers as Answers
 
 -- ==== Demand 1. Whatever bytes and buffers are lent, every entry point ends, touches nothing beyond them, and answers with four numbers
 -- from the table. That it ends and stays inside what is lent is what a proved contract says: those of `tokens`, `declarations`,
--- `check` and `canon` have no `requires`.
+-- `check`, `canon` and `order` have no `requires`.
 
 -- ---- the four numbers are on a line of the table
 
-pub tokens-in-table : (text table : List ℕ) → InTable (text ∷ []) (TokenCount text) NoText (tokensAnswer text table)
+pub tokens-in-table : (text table : List ℕ) → InTable (text ∷ []) (TokenCount text) NoText NoOrder (tokensAnswer text table)
 tokens-in-table = InTables.tokens-in
 
-pub declarations-in-table : (list : List ℕ) (work : ℕ) → InTable (list ∷ []) (OperationCount list) NoText (declarationsAnswer list work)
+pub declarations-in-table : (list : List ℕ) (work : ℕ) → InTable (list ∷ []) (OperationCount list) NoText NoOrder (declarationsAnswer list work)
 declarations-in-table = InTables.declarations-in
 
-pub check-in-table : (list doc : List ℕ) (l : CheckRoom) → InTable (list ∷ doc ∷ []) (CallCount list doc) NoText (checkAnswer list doc l)
+pub check-in-table : (list doc : List ℕ) (l : CheckRoom) → InTable (list ∷ doc ∷ []) (CallCount list doc) NoText NoOrder (checkAnswer list doc l)
 check-in-table = InTables.check-in
 
-pub canon-in-table : (list doc : List ℕ) (l : Lent) → InTable (list ∷ doc ∷ []) (CanonicalLength list doc) (CanonicalLength list doc) (numbers list doc l)
+pub canon-in-table : (list doc : List ℕ) (l : Lent) → InTable (list ∷ doc ∷ []) (CanonicalLength list doc) (CanonicalLength list doc) NoOrder (numbers list doc l)
 canon-in-table = InTables.canon-in
 
--- ---- a refusal changes no output buffer
+pub order-in-table : (list doc : List ℕ) (l : OrderRoom) (ks : List ℕ)
+    → InTable (list ∷ doc ∷ []) (CallCount list doc) NoText (TheOrder ks) (orderAnswer list doc l ks)
+order-in-table = InTables.order-in
+
+-- ---- a refusal changes no output buffer; `declarations` and `order` have none
 
 pub tokens-refusal-keeps : (text table : List ℕ) → (tokensAnswer text table .code ≡ Code.accepted → ⊥) → tokensTable text table ≡ table
 tokens-refusal-keeps = Lexis.untouched
@@ -91,6 +99,11 @@ pub canon-work : (list doc work₁ work₂ out : List ℕ) → let r = numbers l
     ((IsGuard r → ⊥) → (workAfter r work₁ ≡ replicate (length work₁) 0) × (workAfter r work₂ ≡ replicate (length work₂) 0))
     × (IsGuard r → (workAfter r work₁ ≡ work₁) × (workAfter r work₂ ≡ work₂))
 canon-work list doc work₁ work₂ out = Answers.works-after (numbers list doc (record { work₁ = length work₁; work₂ = length work₂; out = out })) work₁ work₂
+
+pub order-work : (list doc work₁ work₂ ks : List ℕ) → let r = orderAnswer list doc (orderRoom work₁ work₂) ks in
+    ((IsGuard r → ⊥) → (workAfter r work₁ ≡ replicate (length work₁) 0) × (workAfter r work₂ ≡ replicate (length work₂) 0))
+    × (IsGuard r → (workAfter r work₁ ≡ work₁) × (workAfter r work₂ ≡ work₂))
+order-work list doc work₁ work₂ ks = Answers.works-after (orderAnswer list doc (orderRoom work₁ work₂) ks) work₁ work₂
 
 -- ==== Demand 2. A graph is accepted exactly when it and its operation list obey the grammar and the rules, given the lent room it asks. The
 -- tables and the counts are the ones defined. Otherwise the answer is the first fault, with its place. The writer's bytes are the
@@ -276,6 +289,39 @@ module _ (list doc : List ℕ) (hs : List Header) (p : Plan) (a : AcceptedList l
 pub canon-accepted : (list doc : List ℕ) (l : Lent) → numbers list doc l .code ≡ Code.accepted
     → (hs : List Header) × ((p : Plan) × (AcceptedList list hs × (HasPlan hs doc p × (Keeps hs p × (length (canonical hs p) ≤ length (l .out))))))
 canon-accepted = Canonical.canon-accepted
+
+-- ---- order: whether a list of call numbers has every call of an accepted graph once, and each use after its assigning call
+
+pub order-room : (list doc : List ℕ) (l : OrderRoom) (ks : List ℕ) → orderServes l ≡ false → orderAnswer list doc l ks ≡ answer Code.shortRoom 0 0 0
+order-room = Orders.order-room
+
+pub order-long : (list doc : List ℕ) (l : OrderRoom) (ks : List ℕ) → orderServes l ≡ true → maxText < length list
+    → orderAnswer list doc l ks ≡ answer Code.longText 1 maxText 0
+order-long = Orders.order-long
+
+pub order-long-document : (list doc : List ℕ) (l : OrderRoom) (ks : List ℕ) → orderServes l ≡ true → length list ≤ maxText → maxText < length doc
+    → orderAnswer list doc l ks ≡ answer Code.longText 2 maxText 0
+order-long-document = Orders.order-long-document
+
+-- what check refuses, order refuses with the same four numbers
+pub order-refuses-as-check : (list doc : List ℕ) (l : OrderRoom) (ks : List ℕ) (k : CheckRoom) → orderServes l ≡ true → checkServes k ≡ true
+    → (checkAnswer list doc k .code ≡ Code.accepted → ⊥) → orderAnswer list doc l ks ≡ checkAnswer list doc k
+order-refuses-as-check = Orders.order-refuses-as-check
+
+module _ (list doc : List ℕ) (l : OrderRoom) (ks : List ℕ) (hs : List Header) (d : Document) (r : orderServes l ≡ true) (a : AcceptedList list hs)
+    (b : AcceptedDocument hs doc d) where
+  -- an order in order is answered 0, 0, 0 and the number of calls
+  pub order-accepts : InOrder (needs (d .calls)) ks → orderAnswer list doc l ks ≡ answer Code.accepted 0 0 (length (d .calls))
+  order-accepts = Orders.order-accepts list doc l ks hs d r a b
+
+  -- any other is answered the first place at fault, with the smallest code there; and what is so answered is that place
+  pub order-fault : (p c : ℕ) → 0 < c → (orderAnswer list doc l ks ≡ answer c 0 p 0) ↔ FirstAtFault (needs (d .calls)) ks p c
+  order-fault = Orders.order-fault list doc l ks hs d r a b
+
+-- code 0 is answered to no other order, and to no other texts
+pub order-accepted : (list doc : List ℕ) (l : OrderRoom) (ks : List ℕ) → orderAnswer list doc l ks .code ≡ Code.accepted
+    → (hs : List Header) × ((d : Document) × (AcceptedList list hs × (AcceptedDocument hs doc d × InOrder (needs (d .calls)) ks)))
+order-accepted = Orders.order-accepted
 
 -- ==== Demand 3. Fix any accepted operation list, and take documents accepted under it whose canonical texts keep the limits, and output
 -- buffers that hold them.

@@ -14,7 +14,7 @@ use Rattle.lexis.specs.Bytes.{classOf, isDigit}
 use Rattle.lexis.specs.Number.{valueFrom}
 use Rattle.lexis.proofs.Caps.{value-snoc}
 use Rattle.writing.specs.Spelling.{decimalBy, decimal}
-use Rattle.writing.proofs.Fit.{All, none, more}
+use Rattle.writing.specs.Fit.{All, none, more}
 use Rattle.writing.proofs.Runs.{all-append}
 
 -- what holds of one digit, and of a number's digits where it holds of a tenth's, holds of all digits

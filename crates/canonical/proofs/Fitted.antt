@@ -25,8 +25,8 @@ use Rattle.lists.specs.Reading.{withSign, isExtent, literalAt, bind, readAt, re
 use Rattle.lists.proofs.Extents.{abs-signed}
 use Rattle.documents.proofs.Items.{clash}
 use Rattle.writing.specs.Layout.{unsignedOf}
-use Rattle.writing.proofs.Fit.{Lowest, nought, odd, IsName, IsNumber, Fits, fit-name, fit-number, fit-scalar, fit-extent, fit-string, fit-logical}
-use Rattle.writing.proofs.Fit.{fit-truth, fit-array, fit-tuple, FitsAll, all-none, all-more, FitsEach, each-none, each-more}
+use Rattle.writing.specs.Fit.{Lowest, nought, odd, IsName, IsNumber, Fits, fit-name, fit-number, fit-scalar, fit-extent, fit-string, fit-logical}
+use Rattle.writing.specs.Fit.{fit-truth, fit-array, fit-tuple, FitsAll, all-none, all-more, FitsEach, each-none, each-more}
 use Rattle.writing.proofs.Planned.{bound}
 use Rattle.writing.proofs.Good.{Good, good-name, AllGood}
 

@@ -1,13 +1,13 @@
--- A text of pieces is lexed back to their tokens where the lexer finds each piece before those that follow it (`lex-again`); and it finds
--- each sort of piece of canonical text: words, numbers, strings, marks.
-use mathlib.Core.Path.{_≡_, refl, sym, _∙_}
+-- A text of pieces is lexed back to their tokens where the lexer finds each piece before those that follow it (`lex-again`), which stand in
+-- their places whatever their number (`chain-placed`); and it finds each sort of piece of canonical text: words, numbers, strings, marks.
+use mathlib.Core.Path.{_≡_, refl, sym, ap, _∙_}
 use mathlib.Core.Bool.{Bool, true, false, and-false}
 use mathlib.Core.List.{List, [], _∷_, _++_, append-assoc}
 use Prim.Native.Nat.{ℕ, suc, _+_, _≤_, _<_}
 use native.Mathlib.Omega.{arith}
 use lib.Dec.{eqb, ltb}
-use lib.ListN.{length, length-append}
-use lib.Seq.{take-append-seam, drop-append-seam, getD-append-seam}
+use lib.ListN.{length, take, drop, length-append}
+use lib.Seq.{take-append-seam, drop-append-seam, drop-drop, getD-append-seam}
 use borrow.Author.Tests.{lt-ltb, ltb-true, le-leb, eq-eqb}
 use Rattle.lexis.specs.Sizes.{maxName, maxString, maxTokens, mantissaEnd}
 use Rattle.lexis.specs.Code as Code
@@ -19,14 +19,15 @@ use Rattle.lexis.specs.Words.{kindOfWord}
 use Rattle.lexis.specs.Number.{Reduced, partsOf, fracLen, expLen, signLen, isE, inRange, reducedOf, writtenOf, minusOf, isSmall, isNear, strip, valueFrom}
 use Rattle.lexis.specs.Number.{sticks}
 use Rattle.lexis.specs.Lexeme.{numberLexeme, wordLexeme, stringLexeme, markLexeme, isPair, isArrow, takesEqual, lexeme}
-use Rattle.lexis.specs.Lexer.{accepted, refused, prepend, lexFrom}
+use Rattle.lexis.specs.Lexer.{accepted, refused, prepend, lexFrom, Placed}
+use Rattle.lexis.specs.Lexer.{none as no-token, next as token}
 use Rattle.lexis.specs.declared.token.Lexeme.{Lexeme}
 use Rattle.lexis.specs.declared.token.Lexeme.the-variants.{Token}
 use Rattle.lexis.proofs.Lexer.{lex-nil, lex-gap, lex-token}
 use Rattle.lexis.proofs.Marks.{mark-alone, mark-equal}
 use Rattle.writing.specs.Spelling.{decimal, spellExponent, spellNumber, quoted}
 use Rattle.writing.specs.Pieces.{Piece, text, tokensAt}
-use Rattle.writing.proofs.Fit.{All, none, more, IsWord, IsNumber}
+use Rattle.writing.specs.Fit.{All, none, more, IsWord, IsNumber}
 use Rattle.writing.proofs.Runs.{next, span-again, differs}
 use Rattle.canonical.proofs.Digits.{IsDigits, some-digits, are-digits}
 use Rattle.canonical.proofs.Numbers.{Apart, number-again, whole-again}
@@ -74,6 +75,24 @@ unfolding text tokensAt
 lex-again n at nil h = lex-nil 0 n at
 lex-again n at (link {p} l c) h =
     lex-piece n at l (omega arith) (chain-solid c) ∙ simp (lex-again (suc n) (at + length (p .bytes) + length (p .space)) c (omega arith))
+
+-- the tokens of a chain stand in their places, however many they are: at `at` of the whole text stand white space and the chain
+pub chain-placed : (whole : List ℕ) (at : ℕ) {s : List ℕ} {ps : List Piece} → All isSpace s → Chain ps → drop at whole ≡ s ++ text ps
+    → at + length s + length (text ps) ≡ length whole → Placed whole at (tokensAt (at + length s) ps)
+unfolding text tokensAt
+chain-placed whole at a nil e n = no-token {at = at} (omega (arith, n, ap gapLen e ∙ space-gap (text []) a (chain-solid nil)))
+chain-placed whole at {s} a (link {p} {ps} l c) e n =
+    let t = at + length s in
+    let r = p .bytes ++ (p .space ++ text ps) in
+    let d : drop t whole ≡ r = sym (drop-drop (length s) at whole) ∙ ap (drop (length s)) e ∙ drop-append-seam s r in
+    let f : drop (t + length (p .bytes)) whole ≡ p .space ++ text ps =
+    sym (drop-drop (length (p .bytes)) t whole) ∙ ap (drop (length (p .bytes))) d ∙ drop-append-seam (p .bytes) (p .space ++ text ps) in
+    let m : t + length (p .bytes) + length (p .space) + length (text ps) ≡ length whole =
+    omega (arith, n, length-append (p .bytes) (p .space ++ text ps), length-append (p .space) (text ps)) in
+    let i : t + length (p .bytes) ≤ length whole = omega (arith, m) in
+    token (ap (λ (k : ℕ). at + k) (sym (ap gapLen e ∙ space-gap r a (l .solid)))) (ap lexeme d ∙ l .found) (l .some) i
+    (sym (take-append-seam (p .bytes) (p .space ++ text ps)) ∙ ap (take (length (p .bytes))) (sym d))
+    (chain-placed whole (t + length (p .bytes)) (l .spaces) c f m)
 
 -- a chain of more pieces than a text may have tokens is refused with code 8
 pub lex-too-many : {ps : List Piece} (n at : ℕ) → Chain ps → n ≤ maxTokens → maxTokens < n + length ps

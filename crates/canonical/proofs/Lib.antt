@@ -27,6 +27,11 @@ pub mod Uses
 pub mod NamedArguments
 pub mod Alike
 pub mod CanonicalFaults
+-- Lawful plans are the plans of texts: names by their bytes, values and operations, rules, the theorems.
+pub mod PlanNames
+pub mod LawfulFits
+pub mod LawfulRules
+pub mod Lawful
 -- canon, and what the program shows.
 pub mod CanonStages
 pub mod Shown

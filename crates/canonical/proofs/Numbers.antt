@@ -25,7 +25,7 @@ use Rattle.lexis.proofs.Signs.{pos-sub}
 use Rattle.lexis.proofs.Reduction.{strip-is}
 use Rattle.lexis.proofs.Ranges.{range-plain}
 use Rattle.writing.specs.Spelling.{decimal, spellExponent, spellNumber}
-use Rattle.writing.proofs.Fit.{Lowest, nought, odd, IsNumber}
+use Rattle.writing.specs.Fit.{Lowest, nought, odd, IsNumber}
 use Rattle.writing.proofs.Runs.{next, span-again, next-seam, differs}
 use Rattle.canonical.proofs.Digits.{value-digits, IsDigits, some-digits, all-digits, are-digits, digits-length}
 

@@ -1,5 +1,6 @@
 -- The plan of an accepted document under an accepted operation list fits. In order: rows; types; headers; what a parameter is bound to;
--- left sides; calls; the document. Each law about a phrase says what its tree has, and that the tokens after it are good.
+-- left sides; calls; the document; all of it under an accepted list. Each law about a phrase says what its tree has, and that the tokens
+-- after it are good.
 use mathlib.Core.Path.{_≡_, refl, ap, _∙_}
 use mathlib.Core.Bool.{Bool, true, false, cond}
 use mathlib.Core.List.{List, [], _∷_}
@@ -20,9 +21,9 @@ use Rattle.syntax.specs.Grammar.{the-name, IsArg, a-positional, a-named, IsLeft
 use Rattle.syntax.specs.Grammar.{last-call, next-call, IsDocument, a-document}
 use Rattle.syntax.specs.Grammar as G
 use Rattle.lists.specs.Fault.{first}
-use Rattle.lists.specs.Names.{valueOf}
+use Rattle.lists.specs.Names.{valueOf, repeats}
 use Rattle.lists.specs.Reading.{Val, bind, readAt, resultType, allTensor}
-use Rattle.lists.specs.ListRules.{listFaults}
+use Rattle.lists.specs.ListRules.{paramNames, listFaults}
 use Rattle.lists.specs.Found.{find}
 use Rattle.lists.specs.Accepted.{AcceptedList}
 use Rattle.lists.proofs.Faultless.{apart-params}
@@ -31,7 +32,7 @@ use Rattle.documents.specs.Accepted.{AcceptedDocument}
 use Rattle.documents.proofs.Items.{clash}
 use Rattle.writing.specs.Plan.{Plan, PlanCall, spellings, valueFor, valuesFor, planCall, planCalls, planOf}
 use Rattle.writing.specs.Layout.{leftPieces}
-use Rattle.writing.proofs.Fit.{IsName, Fits, fit-name, fit-number, fit-scalar, fit-extent, fit-string, fit-logical, fit-truth, fit-array, fit-tuple}
+use Rattle.writing.specs.Fit.{IsName, Fits, fit-name, fit-number, fit-scalar, fit-extent, fit-string, fit-logical, fit-truth, fit-array, fit-tuple}
 use Rattle.writing.proofs.Fit.{LeftFits, alone, several, FitsParams, no-param, a-param, CallFits, CallsFit, one-call, more-calls, NamesFit, one-name}
 use Rattle.writing.proofs.Fit.{more-names, PlanFits}
 use Rattle.writing.proofs.Good.{Each, good-name, AllGood, lex-good}
@@ -89,13 +90,14 @@ abbrev Perhaps : (Value → Type 0) → Option Value → Type 0
 Perhaps P nothing = Unit {0}
 Perhaps P (some v) = P v
 
-record GoodParam (b : ℕ) (p : Param) : Type 0 where
-  name : IsName (p .name .bytes)
-  default : Perhaps (Reads both b) (p .default)
+pub record GoodParam (b : ℕ) (p : Param) : Type 0 where
+  pub name : IsName (p .name .bytes)
+  pub default : Perhaps (Reads both b) (p .default)
 
-record GoodHeader (b : ℕ) (h : Header) : Type 0 where
-  some-param : 0 < length (h .params)
-  params : Each (GoodParam b) (h .params)
+pub record GoodHeader (b : ℕ) (h : Header) : Type 0 where
+  pub name : IsName (h .name .bytes)
+  pub some-param : 0 < length (h .params)
+  pub params : Each (GoodParam b) (h .params)
 
 default-good : {b : ℕ} {ts us : List Token} {d : Option Value} → IsDefault b ts d us → AllGood ts → Perhaps (Reads both b) d × AllGood us
 default-good no-default g = (tt, g)
@@ -110,10 +112,10 @@ result-good : {b : ℕ} {ts us : List Token} {r : Result} → IsResult b ts r us
 result-good (a-result s c i) g = (tt, type-rest i (g .1 .1))
 
 header-good : {b : ℕ} {ts us : List Token} {h : Header} → IsHeader b ts h us → AllGood ts → GoodHeader b h × AllGood us
-header-good {b} (a-header f n o ps a p rs) g =
+header-good {b} (a-header {n = t} f n o ps a p rs) g =
     let y = row-good (GoodParam b) (λ ts q us. param-good) ps (g .1 .1 .1) in
     let z = row-good (λ (r : Result). Unit {0}) (λ ts r us. result-good) rs (y .1 .1 .1) in
-    (record { some-param = row-some ps; params = y .0 }, z .1)
+    (record { name = good-name t (g .1 .0) n; some-param = row-some ps; params = y .0 }, z .1)
 
 list-good : {b : ℕ} {ts : List Token} {hs : List Header} → IsList b ts hs → AllGood ts → Each (GoodHeader b) hs
 list-good no-header g = tt
@@ -184,7 +186,7 @@ bare-fits (pair f g r) = several f g r
 raise : {b : ℕ} {u : Ty} {w : Val} → Fits names b u w → Fits names (suc b) u w
 raise {b} f = wider names names (λ h. h) (λ h. h) (suc b) (omega arith) f
 
-left-fits : {b : ℕ} {u : Ty} {w : Val} → Fits names b u w → LeftFits b u w
+pub left-fits : {b : ℕ} {u : Ty} {w : Val} → Fits names b u w → LeftFits b u w
 unfolding leftPieces
 left-fits (fit-name t h) = alone (fit-name t h) (λ r. refl)
 left-fits (fit-number t h) = alone (fit-number t h) (λ r. refl)
@@ -225,9 +227,14 @@ call-good {b} (G.a-call {n} l s o xs e) g =
     let y = row-good (λ (x : Arg). Reads both b (valueOf x)) (λ ts x us. arg-good) xs (x .1 .1 .1) in
     (record { left = x .0; name = good-name n (x .1 .0) s; args = y .0 }, end-rest e (y .1))
 
+-- parameters of an operation that is found have different names
+pub found-distinct : (hs : List Header) (t : Token) (h : Header) → listFaults hs ≡ [] → find hs t ≡ some h → repeats (paramNames (h .params)) ≡ []
+unfolding first
+found-distinct hs t h n e = apart-params h (ap first (found-clean hs t h n e))
+
 module _ (hs : List Header) (good : Each (GoodHeader maxBrackets) hs) (lawful : listFaults hs ≡ []) where
   call-fits : (c : Call) (p : PlanCall) → GoodCall maxBrackets c → planCall hs c ≡ some p → CallFits hs p
-  unfolding planCall first
+  unfolding planCall
   call-fits c p g e =
       let x = bound (find hs (c .op)) _ e in
       let h = x .it in
@@ -244,7 +251,7 @@ module _ (hs : List Header) (good : Each (GoodHeader maxBrackets) hs) (lawful : 
             values-fit (h .params) (leading (c .args)) (c .args) (z .it) (k .params) (all-leading (Reads both maxBrackets) (c .args) (g .args)) (g .args)
             (z .there);
         some-param = k .some-param;
-        distinct = apart-params h (ap first (found-clean hs (c .op) h lawful (x .there)));
+        distinct = found-distinct hs (c .op) h lawful (x .there);
       } in
       rw q at r
 
@@ -273,7 +280,16 @@ module _ (hs : List Header) (good : Each (GoodHeader maxBrackets) hs) (lawful : 
       { graph = good-name n (k .1 .1 .1 .0) s; inputs = x .0; outputs = y .0; calls = calls-fit (z .it) b (y .1 .1) (z .there) } in
       rw m at r
 
+-- ---- under an accepted list
+
+pub headers-good : (list : List ℕ) (hs : List Header) → AcceptedList list hs → Each (GoodHeader maxBrackets) hs
+headers-good list hs l = list-good (l .spelt) (lex-good list (l .tokens) (l .lexed))
+
+-- whatever good tokens spell it
+pub spelt-fits : (list : List ℕ) (hs : List Header) {ts : List Token} {d : Document} (p : Plan) → AcceptedList list hs → IsDocument maxBrackets ts d
+    → AllGood ts → planOf hs d ≡ some p → PlanFits hs p
+spelt-fits list hs p l s g e = document-fits hs (headers-good list hs l) (l .lawful) p s g e
+
 pub plan-fits : (list doc : List ℕ) (hs : List Header) (d : Document) (p : Plan) → AcceptedList list hs → AcceptedDocument hs doc d
     → planOf hs d ≡ some p → PlanFits hs p
-plan-fits list doc hs d p l a e =
-    document-fits hs (list-good (l .spelt) (lex-good list (l .tokens) (l .lexed))) (l .lawful) p (a .spelt) (lex-good doc (a .tokens) (a .lexed)) e
+plan-fits list doc hs d p l a e = spelt-fits list hs p l (a .spelt) (lex-good doc (a .tokens) (a .lexed)) e

@@ -25,11 +25,11 @@ use Rattle.lists.specs.Reading.{Val, Vals, vArray, a-val, contentOf, literalAt,
 use Rattle.writing.specs.Spelling.{decimal, spellNumber, quoteFor, quoted, spellString, spellTruth}
 use Rattle.writing.specs.Pieces.{Piece, tokensAt}
 use Rattle.writing.specs.Layout.{piece, namePiece, mark, signPieces, unsignedOf, pieces, items, moreItems}
-use Rattle.writing.proofs.Fit.{Fits, fit-name, fit-number, fit-scalar, fit-extent, fit-string, fit-logical, fit-truth, fit-array, fit-tuple}
+use Rattle.writing.specs.Fit.{Fits, fit-name, fit-number, fit-scalar, fit-extent, fit-string, fit-logical, fit-truth, fit-array, fit-tuple}
 use Rattle.writing.proofs.Signs.{isNegative, signed-again}
 use Rattle.canonical.proofs.Digits.{value-digits}
 use Rattle.canonical.proofs.Numbers.{read-number}
-use Rattle.writing.proofs.Fit.{FitsAll, all-none, all-more, FitsEach, each-none, each-more}
+use Rattle.writing.specs.Fit.{FitsAll, all-none, all-more, FitsEach, each-none, each-more}
 
 -- ---- placed pieces
 

@@ -3,6 +3,7 @@
 use mathlib.Core.Path.{_≡_, refl, sym, ap, ap₂, _∙_}
 use mathlib.Core.Bool.{Bool, true, false, cond, _||_}
 use mathlib.Core.List.{List, [], _∷_, _++_, map-append, cons≢nil}
+use mathlib.Core.Logic.{_↔_}
 use Prim.Native.Nat.{ℕ, suc, _+_, _≤_}
 use native.Mathlib.Omega.{arith}
 use lib.ListN.{length, take, drop, drop-of-length-le, length-map}
@@ -24,11 +25,11 @@ append-same ts us rs ss e f = spellings-append ts us ∙ ap₂ (λ (v w : List (
 
 -- ---- tests
 
-unfoldable isIn : List (List ℕ) → List ℕ → Bool
+unfoldable pub isIn : List (List ℕ) → List ℕ → Bool
 isIn [] w = false
 isIn (v ∷ vs) w = sameBytes v w || isIn vs w
 
-among-in : (ss : List Token) (t : Token) → isAmong ss t ≡ isIn (spellings ss) (t .bytes)
+pub among-in : (ss : List Token) (t : Token) → isAmong ss t ≡ isIn (spellings ss) (t .bytes)
 unfolding isAmong isIn
 among-in [] t = refl
 among-in (s ∷ ss) t = ap (λ (b : Bool). sameBytes (s .bytes) (t .bytes) || b) (among-in ss t)
@@ -70,7 +71,7 @@ append-within ts us rs ss h k g =
 
 -- ---- the names that pass a test
 
-those-tally : (f : Token → Bool) (g : List ℕ → Bool) → ((t : Token) → f t ≡ g (t .bytes)) → (ts : List Token) → length (those f ts) ≡ tally g (spellings ts)
+pub those-tally : (f : Token → Bool) (g : List ℕ → Bool) → ((t : Token) → f t ≡ g (t .bytes)) → (ts : List Token) → length (those f ts) ≡ tally g (spellings ts)
 unfolding those tally
 those-tally f g h [] = refl
 those-tally f g h (t ∷ ts) = rw (h t) (go (g (t .bytes)) (those-tally f g h ts))
@@ -80,7 +81,7 @@ those-tally f g h (t ∷ ts) = rw (h t) (go (g (t .bytes)) (those-tally f g h ts
     go true e = ap suc e
     go false e = e
 
-length-zero : {A : Type 0} (xs : List A) → length xs ≤ 0 → xs ≡ []
+pub length-zero : {A : Type 0} (xs : List A) → length xs ≤ 0 → xs ≡ []
 length-zero [] h = refl
 length-zero (x ∷ xs) h = absurd (omega arith)
 
@@ -121,14 +122,17 @@ repeats-keep rs ss (t ∷ ts) (u ∷ us) e q h =
 
 -- ---- faults
 
+pub no-fault : (c : ℕ) (ts : List Token) → (faults c (starts ts) ≡ []) ↔ (ts ≡ [])
+no-fault c ts = (λ h. no-starts ts (no-faults c (starts ts) h), λ e. ap (λ (us : List Token). faults c (starts us)) e)
+
 pub faults-keep : (c : ℕ) (ts us : List Token) → EmptyToo ts us → EmptyToo (faults c (starts ts)) (faults c (starts us))
-faults-keep c ts us f h = rw (f (no-starts ts (no-faults c (starts ts) h)))
+faults-keep c ts us f h = no-fault c us .1 (f (no-fault c ts .0 h))
+
+pub few-places : (n : ℕ) (ps : List ℕ) → (over n ps ≡ []) ↔ (length ps ≤ n)
+few-places n ps = (λ h. none-beyond n ps (no-faults 12 (take 1 (drop n ps)) h), λ l. rw (drop-of-length-le ps l))
 
 pub over-keep : (n : ℕ) (ps qs : List ℕ) → length qs ≤ length ps → EmptyToo (over n ps) (over n qs)
-over-keep n ps qs l h =
-    let m = none-beyond n ps (no-faults 12 (take 1 (drop n ps)) h) in
-    let k : length qs ≤ n = omega arith in
-    rw (drop-of-length-le qs k)
+over-keep n ps qs l h = few-places n qs .1 (omega (arith, few-places n ps .0 h))
 
 pub counts-keep : (n : ℕ) (ts us : List Token) → Within (spellings us) (spellings ts) → EmptyToo (over n (starts ts)) (over n (starts us))
 counts-keep n ts us w = over-keep n (starts ts) (starts us) (omega (arith, w (λ v. true), all ts, all us))

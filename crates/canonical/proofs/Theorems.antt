@@ -28,11 +28,7 @@ use Rattle.writing.specs.Layout.{documentPieces, canonical}
 use Rattle.canonical.specs.Answer.{layoutOf, writingStages, textStages, canonServes, written, canonAnswer, outputAfter}
 use Rattle.canonical.specs.Demand.{HasPlan, Keeps, Lent, roomOf, Serves, numbers, output, bytesWritten}
 use Rattle.writing.proofs.PlanExists.{plan-exists}
-use Rattle.canonical.proofs.PlanFitted.{plan-fits}
-use Rattle.canonical.proofs.CanonicalTokens.{lex-canonical}
-use Rattle.canonical.proofs.RereadDocument.{document-back}
-use Rattle.canonical.proofs.Replan.{canon-plan}
-use Rattle.canonical.proofs.CanonicalFaults.{canon-clean}
+use Rattle.canonical.proofs.Lawful.{lawful-plan, lawful-accepted}
 use Rattle.canonical.proofs.CanonStages.{text-codes}
 
 -- ---- plans
@@ -116,20 +112,7 @@ module _ (list : List ℕ) (hs : List Header) (fixed : AcceptedList list hs) whe
 
     -- the canonical text is accepted under the same list, and its plan is the plan of the document that it came from
     pub again-accepted : HasPlan hs (canonical hs p) p
-    again-accepted =
-        let f = plan-fits list doc hs (h .tree) p fixed (h .accepted) (h .planned) in
-        let x = document-back hs p f in
-        record {
-          tree = x .0;
-          accepted = record {
-            short = k .bytes;
-            tokens = _;
-            lexed = lex-canonical hs p f (k .tokens);
-            spelt = x .1 .0;
-            lawful = canon-clean list hs (h .tree) (x .0) p fixed (h .accepted .lawful) (h .planned) (x .1 .1);
-          };
-          planned = canon-plan hs p (x .0) (x .1 .1);
-        }
+    again-accepted = lawful-accepted list hs p fixed k (lawful-plan list doc hs p fixed h)
 
   -- canon, called on it in the same way, writes the same bytes and answers the same four numbers
   pub again-written : (doc : List ℕ) (p : Plan) (h : HasPlan hs doc p) (k : Keeps hs p) (l m : Lent) → Serves l (canonical hs p) → Serves m (canonical hs p)

@@ -22,7 +22,8 @@ use Rattle.writing.specs.Plan.{valueFor, valuesFor, spellings}
 use Rattle.canonical.proofs.Shape.{Named, no-arg, an-arg}
 use Rattle.writing.proofs.Planned.{bound, both}
 use Rattle.canonical.proofs.Spelt.{spellings-append, tally, tally-append, Within}
-use Rattle.canonical.proofs.ValueNames.{valNames, read-names}
+use Rattle.writing.specs.Lawful.{valNames}
+use Rattle.canonical.proofs.ValueNames.{read-names}
 use Rattle.canonical.proofs.Defaults.{Bare, no-bare, a-bare}
 
 -- what arguments use, and what values hold

@@ -13,25 +13,12 @@ use Rattle.syntax.specs.Tree.Values.{none, more}
 use Rattle.syntax.specs.Tree.Ty.{tensor, extent, scalar, logical, string, arrayOf, tupleOf}
 use Rattle.syntax.specs.Tree.Tys.{no-type, a-type}
 use Rattle.lists.specs.Names.{namesIn, namesOf}
-use Rattle.lists.specs.Reading.{Val, Vals, vName, vNumber, vExtent, vString, vLogical, vArray, vTuple, no-val, a-val, where-true, nameAt, isNumber, contentOf}
+use Rattle.lists.specs.Reading.{Val, Vals, vName, vExtent, vString, vArray, vTuple, no-val, a-val, where-true, nameAt, isNumber, contentOf}
 use Rattle.lists.specs.Reading.{isExtent, numberOf, truthOf, literalAt, bind, readAt, readAll, readEach}
 use Rattle.writing.specs.Plan.{spellings}
+use Rattle.writing.specs.Lawful.{valNames, valsNames}
 use Rattle.writing.proofs.Planned.{nothing-some, bound, both}
 use Rattle.canonical.proofs.Spelt.{spellings-append}
-
-unfoldable mutual
-  pub valNames : Val → List (List ℕ)
-  valNames (vName w) = w ∷ []
-  valNames (vNumber n) = []
-  valNames (vExtent n) = []
-  valNames (vString s) = []
-  valNames (vLogical b) = []
-  valNames (vArray vs) = valsNames vs
-  valNames (vTuple vs) = valsNames vs
-
-  pub valsNames : Vals → List (List ℕ)
-  valsNames no-val = []
-  valsNames (a-val v vs) = valNames v ++ valsNames vs
 
 -- ---- leaves
 

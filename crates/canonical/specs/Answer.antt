@@ -6,12 +6,12 @@ use mathlib.Core.Option.{Option, some}
 use mathlib.Core.Option.{none as nothing}
 use lib.Dec.{leb}
 use lib.ListN.{length}
-use Rattle.lexis.specs.Sizes.{maxText, maxTokens, workWords}
+use Rattle.lexis.specs.Sizes.{maxText, maxTokens}
 use Rattle.lexis.specs.Answer.{answer}
 use Rattle.lexis.specs.declared.Answer.{Answer}
 use Rattle.syntax.specs.Tree.{Header, Document}
 use Rattle.lists.specs.Answer.{Stage, pass, andThen, guard, guarded, stageAnswer, tableAfter}
-use Rattle.documents.specs.Answer.{bothStages}
+use Rattle.documents.specs.Answer.{bothStages, areasServe}
 use Rattle.canonical.specs.Code as Code
 use Rattle.writing.specs.Plan.{Plan, planOf}
 use Rattle.writing.specs.Pieces.{Piece, text}
@@ -50,7 +50,7 @@ canonRoom work₁ work₂ out = record { work₁ = length work₁; work₂ = len
 
 -- the room that canon asks; the output may have any length
 abbrev pub canonServes : CanonRoom → Bool
-canonServes l = leb workWords (l .work₁) && leb workWords (l .work₂)
+canonServes l = areasServe (l .work₁) (l .work₂)
 
 unfoldable pub written : List ℕ → List ℕ → CanonRoom → Stage (List ℕ)
 written list doc l = guarded (canonServes l) list doc (textStages list doc (l .out))

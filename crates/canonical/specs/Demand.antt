@@ -1,14 +1,17 @@
 -- What the demands speak of: documents with their plans, canonical texts within the limits, what canon is lent and writes.
 use Prim.Native.Nat.{ℕ, _≤_}
 use mathlib.Core.Path.{_≡_}
-use mathlib.Core.List.{List}
+use mathlib.Core.List.{List, []}
 use mathlib.Core.Logic.{_⊎_}
 use mathlib.Core.Option.{some}
 use lib.ListN.{length, take}
-use Rattle.lexis.specs.Sizes.{maxText, maxTokens, workWords}
+use Rattle.lexis.specs.Sizes.{maxText, maxTokens, maxBrackets, workWords}
 use Rattle.lexis.specs.Code as Code
 use Rattle.lexis.specs.declared.Answer.{Answer}
+use Rattle.lexis.specs.Lexer.{Token, Placed}
 use Rattle.syntax.specs.Tree.{Header, Document}
+use Rattle.syntax.specs.Grammar.{IsDocument}
+use Rattle.documents.specs.DocumentRules.{documentFaults}
 use Rattle.documents.specs.Accepted.{AcceptedDocument}
 use Rattle.writing.specs.Plan.{Plan, planOf}
 use Rattle.writing.specs.Layout.{documentPieces, canonical}
@@ -18,6 +21,15 @@ use Rattle.canonical.specs.Answer.{CanonRoom, written, canonAnswer, outp
 pub record HasPlan (hs : List Header) (doc : List ℕ) (p : Plan) : Type 0 where
   pub tree : Document
   pub accepted : AcceptedDocument hs doc tree
+  pub planned : planOf hs tree ≡ some p
+
+-- The same, limits aside: a text of any length whose tokens, of any number, spell a document that breaks no rule, and its plan.
+pub record ReadsAs (hs : List Header) (text : List ℕ) (p : Plan) : Type 0 where
+  pub tree : Document
+  pub tokens : List Token
+  pub placed : Placed text 0 tokens
+  pub spelt : IsDocument maxBrackets tokens tree
+  pub lawful : documentFaults hs tree ≡ []
   pub planned : planOf hs tree ≡ some p
 
 -- the canonical text of a plan keeps the byte and token limits

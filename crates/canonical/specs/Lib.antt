@@ -2,6 +2,7 @@
 pub mod Code
 pub mod Answer
 pub mod Demand
+pub mod Arranged
 pub mod CodeTable
 pub mod Program
 -- What only the contracts of the code cite.

@@ -3,6 +3,7 @@ mod code;
 pub mod program;
 
 use code::Code;
+use documents::check::areas_serve;
 use documents::check::long_text;
 use documents::records::Records;
 use documents::stages::Sizes;
@@ -17,9 +18,7 @@ use writing::document::put_document;
 use writing::place::keeps_limits;
 use writing::place::put_bytes;
 ghost use mathlib.Core.Path.{_≡_};
-ghost use mathlib.Core.Bool.{_&&_};
 ghost use Prim.Native.Nat.{_≤_, min};
-ghost use lib.Dec.{leb};
 ghost use lib.ListN.{length};
 ghost use Rattle.lexis.specs.Answer.{answer};
 ghost use Rattle.lexis.specs.Sizes.{maxText, maxTokens, workWords};
@@ -33,16 +32,6 @@ ghost use Rattle.canonical.specs.Inner.{Wrote, TextsKept};
 const SHORT_TEXT: usize = 512;
 
 const SHORT_BUFFER: usize = 2048;
-
-// Whether both work areas have the room that is asked.
-fn rooms_serve(work1: usize, work2: usize) -> bool
-    ensures { λ r. ⌜ r ≡ (leb workWords work1 && leb workWords work2) ⌝ }
-{
-    if !Limits::work_serves(work1) {
-        return false;
-    }
-    Limits::work_serves(work2)
-}
 
 // An answer that names no text.
 fn no_text(code: u32, detail: u32) -> Answer
@@ -231,7 +220,7 @@ pub fn canon(
     ensures { λ r. ⌜ now (work1 .exit) ≡ workAfter r (now (work1 .entry)) ⌝ }
     ensures { λ r. ⌜ now (work2 .exit) ≡ workAfter r (now (work2 .entry)) ⌝ }
 {
-    if !rooms_serve(work1.len(), work2.len()) {
+    if !areas_serve(work1.len(), work2.len()) {
         return no_text(lexis::code::Code::SHORT_ROOM, 0);
     }
     if !Limits::text_fits(list.len()) {

@@ -38,7 +38,7 @@ use Rattle.documents.specs.DocumentRules.{documentFaults}
 use Rattle.documents.specs.Judged.{Directs, Directed}
 use Rattle.documents.specs.Answer.{documentStages, Checked, bothStages}
 use Rattle.documents.specs.Graphs.{Rules}
-use Rattle.documents.specs.Stages.{DocumentRead, BothKept, BothDone}
+use Rattle.documents.specs.Stages.{DocumentRead, BothKept, BothDone, RecordsKept, RecordsDone}
 use Rattle.documents.specs.declared.document.Ruled.{Ruled}
 use Rattle.documents.specs.declared.stages.Sizes.{Sizes}
 use Rattle.documents.specs.declared.stages.Staged.{Staged}
@@ -190,3 +190,18 @@ pub both-stopped : (list doc work₁ work₂ index words records : List ℕ) (x 
     → x ≡ Stopped r
     → bothStages list doc ≡ stop r
 both-stopped list doc work₁ work₂ index words records x d e = subst (BothDone list doc work₁ work₂ index words records) e d
+
+-- ---- the records alone
+
+pub records-done : (list doc work₁ work₂ index words records : List ℕ) (x : Staged) → BothDone list doc work₁ work₂ index words records x
+    → RecordsDone list doc records x
+records-done list doc work₁ work₂ index words records (Passed s) d =
+    let p = d .passed in
+    record { trees = _; stages = both-under list doc (p .first .stages) (p .second .stages); kept = d .kept }
+records-done list doc work₁ work₂ index words records (Stopped r) d = d
+
+pub records-passed : {list doc records : List ℕ} {x : Staged} {s : Sizes} → RecordsDone list doc records x → x ≡ Passed s → RecordsKept list doc records s
+records-passed {list} {doc} {records} d e = subst (RecordsDone list doc records) e d
+
+pub records-stopped : (list doc records : List ℕ) (x : Staged) {r : Answer} → RecordsDone list doc records x → x ≡ Stopped r → bothStages list doc ≡ stop r
+records-stopped list doc records x d e = subst (RecordsDone list doc records) e d

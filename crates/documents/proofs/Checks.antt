@@ -14,14 +14,14 @@ use Rattle.lists.specs.Names.{allUsed}
 use Rattle.lists.specs.Answer.{Stage, stop, workAfter}
 use Rattle.lists.proofs.Guards.{guard-room, guard-list, guard-document, guard-none, isGuard, kept, cleared-after}
 use Rattle.documents.specs.Tables.{callTable, wireTable}
-use Rattle.documents.specs.Answer.{bothStages, CheckRoom, checkRoom, checkServes, checked, callCount, checkAnswer, Checked, callsAfter, wiresAfter}
+use Rattle.documents.specs.Answer.{bothStages, areasServe, CheckRoom, checkRoom, checkServes, checked, callCount, checkAnswer, Checked, callsAfter}
+use Rattle.documents.specs.Answer.{wiresAfter}
 use Rattle.documents.specs.Records.{callSize, wireSize}
-use Rattle.documents.specs.Stages.{BothKept}
+use Rattle.documents.specs.Stages.{RecordsKept}
 use Rattle.documents.specs.Checks.{Ended, Tabled}
 use Rattle.documents.specs.declared.stages.Sizes.{Sizes}
 use Rattle.documents.proofs.Recording.{calls-words, wires-words}
 use Rattle.documents.proofs.Refusals.{both-codes}
-use Rattle.documents.proofs.BothStages.{both-under}
 
 -- ---- what the stages end in
 
@@ -34,15 +34,14 @@ module _ (list doc calls wires : List ℕ) where
   unfolding callsAfter wiresAfter
   ended-stopped e = ended-as e (record { answered = refl; called = refl; wired = refl })
 
-  pub ended-passed : {work₁ work₂ index words records calls' wires' : List ℕ} {s : Sizes} {r : Answer} → BothKept list doc work₁ work₂ index words records s
+  pub ended-passed : {records calls' wires' : List ℕ} {s : Sizes} {r : Answer} → RecordsKept list doc records s
       → Tabled records calls calls' wires wires' s r → Ended (bothStages list doc) calls calls' wires wires' r
   unfolding callsAfter wiresAfter callTable wireTable
   ended-passed b t =
-      let p = b .passed in
       let k = b .kept in
-      let d = p .second .document in
-      let hs = p .first .headers in
-      ended-as (both-under list doc (p .first .stages) (p .second .stages))
+      let d = b .trees .document in
+      let hs = b .trees .headers in
+      ended-as (b .stages)
       (record {
         answered = t .answered ∙ ap (λ (x : ℕ). answer Code.accepted 0 0 x) (k .counted);
         called = t .called (callTable hs d) (ap (λ (x : ℕ). x * callSize) (k .counted) ∙ sym (calls-words hs (d .calls))) (k .called);
@@ -51,21 +50,21 @@ module _ (list doc calls wires : List ℕ) where
 
 -- ---- the guards and the end
 
+pub areas-parts : (m n : ℕ) → areasServe m n ≡ true → (workWords ≤ m) × (workWords ≤ n)
+areas-parts m n e =
+    let a = and-eq-true-iff (leb workWords m) (leb workWords n) .0 e in
+    (leb-true workWords m (a .0), leb-true workWords n (a .1))
+
 module _ (list doc work₁ work₂ calls wires : List ℕ) where
   abbrev room : CheckRoom
   room = checkRoom work₁ work₂ calls wires
 
   pub room-parts : checkServes room ≡ true → (workWords ≤ length work₁) × (workWords ≤ length work₂) × (callWords ≤ length calls) × (wireWords ≤ length wires)
   room-parts e =
-      let a = and-eq-true-iff (leb workWords (length work₁)) (leb workWords (length work₂) && (leb callWords (length calls) && leb wireWords (length wires)))
-      .0 e in
-      let b = and-eq-true-iff (leb workWords (length work₂)) (leb callWords (length calls) && leb wireWords (length wires)) .0 (a .1) in
-      let c = and-eq-true-iff (leb callWords (length calls)) (leb wireWords (length wires)) .0 (b .1) in (
-        leb-true workWords (length work₁) (a .0),
-        leb-true workWords (length work₂) (b .0),
-        leb-true callWords (length calls) (c .0),
-        leb-true wireWords (length wires) (c .1),
-      )
+      let a = and-eq-true-iff (areasServe (length work₁) (length work₂)) (leb callWords (length calls) && leb wireWords (length wires)) .0 e in
+      let b = areas-parts (length work₁) (length work₂) (a .0) in
+      let c = and-eq-true-iff (leb callWords (length calls)) (leb wireWords (length wires)) .0 (a .1) in
+      (b .0, b .1, leb-true callWords (length calls) (c .0), leb-true wireWords (length wires) (c .1))
 
   -- what check ensures of its answer, of both tables and of both work areas afterwards
   abbrev Ensured : Answer → List ℕ → List ℕ → List ℕ → List ℕ → Type 0

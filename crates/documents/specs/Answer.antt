@@ -32,6 +32,10 @@ pub record Checked : Type 0 where
 unfoldable pub bothStages : List ℕ → List ℕ → Stage Checked
 bothStages list doc = andThen (listStages list) (λ hs. andThen (documentStages hs doc) (λ d. pass (record { headers = hs; document = d })))
 
+-- the work areas that every operation on a list and a document asks
+abbrev pub areasServe : ℕ → ℕ → Bool
+areasServe work₁ work₂ = leb workWords work₁ && leb workWords work₂
+
 -- ---- check: from both texts and the lengths of what is lent beside them
 
 -- the lengths of both work areas, of the call table and of the wire table
@@ -46,7 +50,7 @@ checkRoom work₁ work₂ calls wires = record { work₁ = length work₁; work�
 
 -- the room that check asks
 abbrev pub checkServes : CheckRoom → Bool
-checkServes l = leb workWords (l .work₁) && (leb workWords (l .work₂) && (leb callWords (l .calls) && leb wireWords (l .wires)))
+checkServes l = areasServe (l .work₁) (l .work₂) && (leb callWords (l .calls) && leb wireWords (l .wires))
 
 unfoldable pub checked : List ℕ → List ℕ → CheckRoom → Stage Checked
 checked list doc l = guarded (checkServes l) list doc (bothStages list doc)

@@ -12,7 +12,7 @@ use Rattle.lists.specs.Fault as F
 use Rattle.lists.specs.Answer.{pass, stop, rulesStage}
 use Rattle.lists.specs.Stages.{ListPassed}
 use Rattle.documents.specs.DocumentRules.{documentFaults}
-use Rattle.documents.specs.Answer.{documentStages, bothStages}
+use Rattle.documents.specs.Answer.{documentStages, Checked, bothStages}
 use Rattle.documents.specs.Records.{Kept}
 use Rattle.documents.specs.declared.stages.Sizes.{Sizes}
 use Rattle.documents.specs.declared.stages.Staged.{Staged}
@@ -54,3 +54,13 @@ pub record BothKept (list doc work₁ work₂ index words records : List ℕ) (s
 abbrev pub BothDone : List ℕ → List ℕ → List ℕ → List ℕ → List ℕ → List ℕ → List ℕ → Staged → Type 0
 BothDone list doc work₁ work₂ index words records (S.Passed s) = BothKept list doc work₁ work₂ index words records s
 BothDone list doc work₁ work₂ index words records (S.Stopped r) = bothStages list doc ≡ stop r
+
+-- the same with nothing left but the records
+pub record RecordsKept (list doc records : List ℕ) (s : Sizes) : Type 0 where
+  pub trees : Checked
+  pub stages : bothStages list doc ≡ pass trees
+  pub kept : Kept records (trees .headers) (trees .document) (s .calls) (s .uses)
+
+abbrev pub RecordsDone : List ℕ → List ℕ → List ℕ → Staged → Type 0
+RecordsDone list doc records (S.Passed s) = RecordsKept list doc records s
+RecordsDone list doc records (S.Stopped r) = bothStages list doc ≡ stop r

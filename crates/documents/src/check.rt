@@ -3,34 +3,39 @@ use crate::records::Records;
 use crate::records::copy;
 use crate::stages::Sizes;
 use crate::stages::Staged;
-use crate::stages::both_stages;
+use crate::stages::recorded_stages;
 use lexis::Answer;
 use lexis::code::Code;
 use lexis::limits::Limits;
 use lists::clear;
-use lists::directory::Room;
 ghost use mathlib.Core.Path.{_≡_};
 ghost use mathlib.Core.Bool.{_&&_};
-ghost use Prim.Native.Nat.{_≤_, min};
+ghost use Prim.Native.Nat.{_≤_};
 ghost use lib.Dec.{leb};
 ghost use lib.ListN.{length};
 ghost use Rattle.lexis.specs.Answer.{answer};
 ghost use Rattle.lexis.specs.Code as C;
-ghost use Rattle.lexis.specs.Sizes.{maxText, maxTokens, maxCalls, maxUses, workWords, callWords, wireWords};
+ghost use Rattle.lexis.specs.Sizes.{maxText, maxCalls, maxUses, workWords, callWords, wireWords};
 ghost use Rattle.lists.specs.Answer.{workAfter};
-ghost use Rattle.lists.specs.Stages.{Served};
-ghost use Rattle.documents.specs.Answer.{bothStages, checkRoom, checked, checkAnswer, callsAfter, wiresAfter};
+ghost use Rattle.documents.specs.Answer.{bothStages, areasServe, checkRoom, checked, checkAnswer, callsAfter, wiresAfter};
 ghost use Rattle.documents.specs.Records.{recordsWords};
 ghost use Rattle.documents.specs.Checks.{Ended, Tabled};
 
-// Whether the work areas and the tables have the room that is asked.
-fn rooms_serve(work1: usize, work2: usize, calls: usize, wires: usize) -> bool
-    ensures { λ r. ⌜ r ≡ (leb workWords work1 && (leb workWords work2 && (leb callWords calls && leb wireWords wires))) ⌝ }
+// Whether the work areas have the room that is asked: the guard of every operation on a list and a document.
+pub fn areas_serve(work1: usize, work2: usize) -> bool
+    ensures { λ r. ⌜ r ≡ areasServe work1 work2 ⌝ }
 {
     if !Limits::work_serves(work1) {
         return false;
     }
-    if !Limits::work_serves(work2) {
+    Limits::work_serves(work2)
+}
+
+// Whether the work areas and the tables have the room that is asked.
+fn rooms_serve(work1: usize, work2: usize, calls: usize, wires: usize) -> bool
+    ensures { λ r. ⌜ r ≡ (areasServe work1 work2 && (leb callWords calls && leb wireWords wires)) ⌝ }
+{
+    if !areas_serve(work1, work2) {
         return false;
     }
     if !Limits::calls_serve(calls) {
@@ -68,43 +73,7 @@ fn write_tables(sizes: Sizes, records: &[u16], calls: &mut [u32], wires: &mut [u
     }
 }
 
-// The answer of the stages of both texts, and the tables where they pass, by way of words for the list's directory and its names. Leaves anything in them and in
-// the work areas.
-fn answer_by(
-    lindex: &mut [u16],
-    words: &mut [u32],
-    list: &[u8],
-    doc: &[u8],
-    work1: &mut [u32],
-    work2: &mut [u32],
-    calls: &mut [u32],
-    wires: &mut [u32],
-) -> Answer
-    requires { ⌜ (length (now list) ≤ maxText) × (length (now doc) ≤ maxText) ⌝ }
-    requires { ⌜ (workWords ≤ length (now work1)) × (workWords ≤ length (now work2)) ⌝ }
-    requires { ⌜ (callWords ≤ length (now calls)) × (wireWords ≤ length (now wires)) ⌝ }
-    requires { ⌜ Served (now lindex) (now words) (min (length (now list)) maxTokens) ⌝ }
-    ensures { λ r. ⌜ Ended (bothStages (now (list .entry)) (now (doc .entry))) (now (calls .entry)) (now (calls .exit)) (now (wires .entry)) (now (wires .exit))
-        r ⌝ }
-    ensures { λ _. ⌜ length (now (work1 .exit)) ≡ length (now (work1 .entry)) ⌝ }
-    ensures { λ _. ⌜ length (now (work2 .exit)) ≡ length (now (work2 .entry)) ⌝ }
-{
-    let mut records = [0u16; Records::WORDS];
-    match both_stages(
-        list,
-        doc,
-        &mut *work1,
-        &mut *work2,
-        lindex,
-        words,
-        &mut records,
-    ) {
-        Staged::Passed(sizes) => write_tables(sizes, &records, calls, wires),
-        Staged::Stopped(r) => r,
-    }
-}
-
-// The same by way of words of its own.
+// The answer of the stages of both texts, and the tables where they pass. Leaves anything in the work areas.
 fn both_answer(
     list: &[u8],
     doc: &[u8],
@@ -121,32 +90,11 @@ fn both_answer(
     ensures { λ _. ⌜ length (now (work1 .exit)) ≡ length (now (work1 .entry)) ⌝ }
     ensures { λ _. ⌜ length (now (work2 .exit)) ≡ length (now (work2 .entry)) ⌝ }
 {
-    if list.len() <= Room::SHORT_TEXT {
-        let mut index = [0u16; Room::SHORT_INDEX];
-        let mut directory = [0u32; Room::SHORT_WORDS];
-        return answer_by(
-            &mut index,
-            &mut directory,
-            list,
-            doc,
-            work1,
-            work2,
-            calls,
-            wires,
-        );
+    let mut records = [0u16; Records::WORDS];
+    match recorded_stages(list, doc, &mut *work1, &mut *work2, &mut records) {
+        Staged::Passed(sizes) => write_tables(sizes, &records, calls, wires),
+        Staged::Stopped(r) => r,
     }
-    let mut lindex = [0u16; Room::INDEX];
-    let mut words = [0u32; Room::WORDS];
-    answer_by(
-        &mut lindex,
-        &mut words,
-        list,
-        doc,
-        work1,
-        work2,
-        calls,
-        wires,
-    )
 }
 
 // The operation: after acceptance the call table has a record for each call, the wire table one for each use. After any answer but a

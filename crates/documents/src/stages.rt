@@ -4,6 +4,7 @@ use index::layout::Layout;
 use lexis::Answer;
 use lexis::Counted;
 use lexis::class::CLASSES;
+use lists::directory::Room;
 use lists::list::Listed;
 use lists::list::list_stages;
 use syntax::Syntax;
@@ -16,7 +17,7 @@ ghost use Rattle.lexis.specs.Sizes.{maxText, maxTokens, workWords};
 ghost use Rattle.lists.specs.Stages.{Served, ListPassed};
 ghost use Rattle.documents.specs.Graphs.{Blank};
 ghost use Rattle.documents.specs.Records.{recordsWords};
-ghost use Rattle.documents.specs.Stages.{DocumentRead, BothDone};
+ghost use Rattle.documents.specs.Stages.{DocumentRead, BothDone, RecordsDone};
 
 // How many tokens and operations the list has, and how many tokens, calls and uses the document.
 pub struct Sizes {
@@ -207,4 +208,28 @@ pub fn both_stages(
         ),
         Listed::Stopped(r) => Staged::Stopped(r),
     }
+}
+
+// The same by way of words of its own for the list's directory and its names: where the stages pass, `records` is all that is left.
+pub fn recorded_stages(
+    list: &[u8],
+    doc: &[u8],
+    work1: &mut [u32],
+    work2: &mut [u32],
+    records: &mut [u16],
+) -> Staged
+    requires { ⌜ (length (now list) ≤ maxText) × (length (now doc) ≤ maxText) ⌝ }
+    requires { ⌜ (workWords ≤ length (now work1)) × ((workWords ≤ length (now work2)) × (recordsWords ≤ length (now records))) ⌝ }
+    ensures { λ r. ⌜ RecordsDone (now (list .entry)) (now (doc .entry)) (now (records .exit)) r ⌝ }
+    ensures { λ _. ⌜ length (now (work1 .exit)) ≡ length (now (work1 .entry)) ⌝ }
+    ensures { λ _. ⌜ length (now (work2 .exit)) ≡ length (now (work2 .entry)) ⌝ }
+{
+    if list.len() <= Room::SHORT_TEXT {
+        let mut index = [0u16; Room::SHORT_INDEX];
+        let mut directory = [0u32; Room::SHORT_WORDS];
+        return both_stages(list, doc, work1, work2, &mut index, &mut directory, records);
+    }
+    let mut lindex = [0u16; Room::INDEX];
+    let mut words = [0u32; Room::WORDS];
+    both_stages(list, doc, work1, work2, &mut lindex, &mut words, records)
 }

@@ -6,6 +6,7 @@ ghost use Rattle.lexis.specs.Answer.{tokensAnswer, tokensTable};
 ghost use Rattle.canonical.specs.Answer.{canonRoom, written, canonAnswer, outputAfter};
 ghost use Rattle.lists.specs.Answer.{declarationsAnswer, workAfter};
 ghost use Rattle.documents.specs.Answer.{checkRoom, checked, checkAnswer, callsAfter, wiresAfter};
+ghost use Rattle.orders.specs.Answer.{orderRoom, orderAnswer};
 
 #[no_mangle]
 pub extern "C" fn nnef_tokens(text: &[u8], table: &mut [u32]) -> Answer
@@ -64,4 +65,19 @@ pub extern "C" fn nnef_canon(
     ensures { λ r. ⌜ now (work2 .exit) ≡ workAfter r (now (work2 .entry)) ⌝ }
 {
     canonical::canon(list, document, work1, work2, out)
+}
+
+#[no_mangle]
+pub extern "C" fn nnef_order(
+    list: &[u8],
+    document: &[u8],
+    work1: &mut [u32],
+    work2: &mut [u32],
+    order: &[u32],
+) -> Answer
+    ensures { λ r. ⌜ r ≡ orderAnswer (now (list .entry)) (now (document .entry)) (orderRoom (now (work1 .entry)) (now (work2 .entry))) (now (order .entry)) ⌝ }
+    ensures { λ r. ⌜ now (work1 .exit) ≡ workAfter r (now (work1 .entry)) ⌝ }
+    ensures { λ r. ⌜ now (work2 .exit) ≡ workAfter r (now (work2 .entry)) ⌝ }
+{
+    orders::order(list, document, work1, work2, order)
 }

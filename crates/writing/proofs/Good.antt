@@ -4,29 +4,31 @@ use mathlib.Core.Path.{_≡_, refl, sym, _∙_}
 use mathlib.Core.Logic.{_⊎_, inl, inr}
 use mathlib.Core.Bool.{Bool, true, false, cond, not, _&&_, _||_, and-false, true≢false, false≢true}
 use mathlib.Core.List.{List, [], _∷_}
-use Prim.Native.Nat.{ℕ, zero, suc, pred, _+_, _-_, _≤_}
+use Prim.Native.Nat.{ℕ, zero, suc, _+_, _-_, _≤_}
 use native.Mathlib.Omega.{arith}
-use lib.Dec.{leb, ltb, eqb}
-use lib.ListN.{length, length-take, getD, take}
+use lib.Dec.{leb, eqb}
+use lib.ListN.{length, length-take, getD, take, drop}
 use lib.Seq.{take-take}
 use borrow.Author.Tests.{leb-true, eqb-true}
-use Rattle.lexis.specs.Sizes.{maxName, maxNumber, maxString, maxTokens}
+use Rattle.lexis.specs.Sizes.{maxName, maxNumber, maxString}
 use Rattle.lexis.specs.Ascii.{ascii}
 use Rattle.lexis.specs.Class as Class
 use Rattle.lexis.specs.Kind as Kind
-use Rattle.lexis.specs.Bytes.{classOf, within, among, isDigit, isNamePart, isContent, spanLen, gapLen}
+use Rattle.lexis.specs.Bytes.{classOf, within, among, isDigit, isNamePart, isContent, spanLen}
 use Rattle.lexis.specs.Words.{Word, words, sameBytes, kindIn, kindOfWord}
 use Rattle.lexis.specs.Number.{partsOf, partsLen, sticks, inRange}
 use Rattle.lexis.specs.Lexeme.{numberLexeme, wordLexeme, stringLexeme, isPair, isArrow, markLexeme, lexeme}
-use Rattle.lexis.specs.Lexer.{Token, Lexed, accepted, refused, prepend, admit, lexFrom, lex}
+use Rattle.lexis.specs.Lexer.{Token, accepted, lex, Placed, next}
+use Rattle.lexis.specs.Lexer.{none as no-token}
 use Rattle.lexis.specs.declared.token.Lexeme.{Lexeme}
 use Rattle.lexis.specs.declared.token.Lexeme.the-variants as L
 use Rattle.lexis.specs.Symbol.{symOf, symbolOf, other, minus, aName}
+use Rattle.lexis.proofs.Theorems.{placed}
 use Rattle.lists.specs.Reading.{isNumber, contentOf}
 use Rattle.lists.proofs.Leaves.{keyword-not}
 use Rattle.writing.specs.Spelling.{holdsSingle, quoteFor}
 use Rattle.writing.proofs.Runs.{span-all, span-of-all}
-use Rattle.writing.proofs.Fit.{All, none, more, IsWord, IsName, IsText}
+use Rattle.writing.specs.Fit.{All, none, more, IsWord, IsName, IsText}
 
 -- ---- good tokens
 
@@ -286,33 +288,10 @@ lexeme-fine (x ∷ s) =
     by-cases (x ∷ s) (eqb (classOf x) Class.letter) _ _ (λ e. word-fine x s (eqb-true (classOf x) Class.letter e))
     (λ _. by-cases (x ∷ s) (eqb (classOf x) Class.quote) _ _ (λ e. string-fine x s (eqb-true (classOf x) Class.quote e)) (λ _. mark-fine x s)))
 
-abbrev FineAll : Lexed → Type 0
-FineAll (accepted ts) = AllGood ts
-FineAll (refused c p) = Unit {0}
-
-prepend-fine : (t : Token) (l : Lexed) → Good (t .kind) (t .bytes) → FineAll l → FineAll (prepend t l)
-prepend-fine t (accepted ts) g r = (g, r)
-prepend-fine t (refused c p) g r = tt
-
-admit-fine : (l : Lexeme) (n at : ℕ) (s : List ℕ) (rest : ℕ → Lexed) → Fine s l → ((m : ℕ) → FineAll (rest m)) → FineAll (admit l n at s rest)
-unfolding admit
-admit-fine (L.Fault c) n at s rest f r = tt
-admit-fine (L.Token k m) n at s rest f r = go (ltb n maxTokens)
-  where
-    go : (b : Bool) → FineAll (cond b (prepend (record { kind = k; start = at; bytes = take m s }) (rest m)) (refused 8 at))
-    go true = prepend-fine (record { kind = k; start = at; bytes = take m s }) (rest m) f (r m)
-    go false = tt
-
-all-fine : (skip n at : ℕ) (s : List ℕ) → FineAll (lexFrom skip n at s)
-unfolding lexFrom
-all-fine skip n at [] = tt
-all-fine (suc skip) n at (x ∷ s) = all-fine skip n (suc at) s
-all-fine zero n at (x ∷ s) =
-    let rest : (ℕ → Lexed) = λ len. lexFrom (pred len) (suc n) (suc at) s in
-    elim (gapLen (x ∷ s)) as (λ g. FineAll (elim g as (λ y. Lexed) [ zero ↦ admit (lexeme (x ∷ s)) n at (x ∷ s) rest | suc g ↦ lexFrom g n (suc at) s ])) [
-      | zero ↦ admit-fine (lexeme (x ∷ s)) n at (x ∷ s) rest (lexeme-fine (x ∷ s)) (λ m. all-fine (pred m) (suc n) (suc at) s)
-      | suc g ↦ all-fine g n (suc at) s
-    ]
+-- tokens in their places; those that the lexer gives are
+pub placed-good : {text : List ℕ} {at : ℕ} {ts : List Token} → Placed text at ts → AllGood ts
+placed-good (no-token e) = tt
+placed-good {text} (next {t = t} s l n i b r) = (rw (← b) at (rw l at (lexeme-fine (drop (t .start) text))), placed-good r)
 
 pub lex-good : (text : List ℕ) (ts : List Token) → lex text ≡ accepted ts → AllGood ts
-lex-good text ts e = rw e at (all-fine 0 0 0 text)
+lex-good text ts e = placed-good (placed text ts e)

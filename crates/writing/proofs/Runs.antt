@@ -9,7 +9,7 @@ use lib.ListN.{length, take, getD}
 use lib.Seq.{getD-append-add}
 use borrow.Author.Tests.{ne-eqb}
 use Rattle.lexis.specs.Bytes.{spanLen}
-use Rattle.writing.proofs.Fit.{All, none, more}
+use Rattle.writing.specs.Fit.{All, none, more}
 
 -- the first byte of a text, 0 where it has none
 abbrev pub next : List ℕ → ℕ

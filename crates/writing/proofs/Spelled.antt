@@ -25,7 +25,7 @@ use Rattle.lists.specs.Reading.{contentOf}
 use Rattle.lists.proofs.Extents.{value-step}
 use Rattle.writing.specs.Spelling.{decimalBy, decimal, spellExponent, holdsSingle, quoteFor}
 use Rattle.writing.specs.Writing.{Unpadded, AreDigits}
-use Rattle.writing.proofs.Fit.{All, none, more}
+use Rattle.writing.specs.Fit.{All, none, more}
 use Rattle.writing.proofs.Good.{digit-range}
 use Rattle.writing.proofs.Runs.{span-all}
 

@@ -3,13 +3,14 @@ use mathlib.Core.Path.{sym, _∙_}
 use lib.ListN.{length}
 use borrow.Author.Tests.{leb-true, not-true, not-false}
 use Rattle.lexis.specs.Sizes.{maxText}
-use Rattle.canonical.proofs.CanonStages.{room-parts, refused-room, refused-list, refused-document, ended}
+use Rattle.documents.proofs.Checks.{areas-parts}
+use Rattle.canonical.proofs.CanonStages.{refused-room, refused-list, refused-document, ended}
 use borrow.Author.Needs.{needs}
 use Rattle.canonical.proofs.canon.Statement.{statement}
 use Rattle.canonical.proofs.canon.Tie as tie
 
-rooms-serve-requires : tie.Need-rooms-serve-requires
-rooms-serve-requires c κs = search needs
+areas-serve-requires : tie.Need-areas-serve-requires
+areas-serve-requires c κs = search needs
 
 no-text-requires : tie.Need-no-text-requires
 no-text-requires c κs = search needs
@@ -18,7 +19,7 @@ returns : tie.Need-returns
 returns c =
     let s = c .before .before .before .before .before .before .before .before in
     refused-room (s .args .list .now) (s .args .doc .now) (s .args .work1 .now) (s .args .work2 .now) (s .args .out .now)
-    (sym (c .before .before .rooms-serve .ensures) ∙ not-true _ (c .before .if1 .taken)) (c .no-text .ensures)
+    (sym (c .before .before .areas-serve .ensures) ∙ not-true _ (c .before .if1 .taken)) (c .no-text .ensures)
 
 text-fits-requires : tie.Need-text-fits-requires
 text-fits-requires c κs = search needs
@@ -30,7 +31,7 @@ returns-2 : tie.Need-returns-2
 returns-2 c =
     let s = c .before .before .before .before .before .before .before .before .before .before in
     refused-list (s .args .list .now) (s .args .doc .now) (s .args .work1 .now) (s .args .work2 .now) (s .args .out .now)
-    (sym (c .before .before .before .before .rooms-serve .ensures) ∙ not-false _ (c .before .before .before .if1 .left))
+    (sym (c .before .before .before .before .areas-serve .ensures) ∙ not-false _ (c .before .before .before .if1 .left))
     (sym (c .before .before .text-fits .ensures) ∙ not-true _ (c .before .if2 .taken)) (c .long-text .ensures)
 
 text-fits-requires-2 : tie.Need-text-fits-requires-2
@@ -43,15 +44,15 @@ returns-3 : tie.Need-returns-3
 returns-3 c =
     let s = c .before .before .before .before .before .before .before .before .before .before .before .before in
     refused-document (s .args .list .now) (s .args .doc .now) (s .args .work1 .now) (s .args .work2 .now) (s .args .out .now)
-    (sym (c .before .before .before .before .before .before .rooms-serve .ensures) ∙ not-false _ (c .before .before .before .before .before .if1 .left))
+    (sym (c .before .before .before .before .before .before .areas-serve .ensures) ∙ not-false _ (c .before .before .before .before .before .if1 .left))
     (sym (c .before .before .before .before .text-fits .ensures) ∙ not-false _ (c .before .before .before .if2 .left))
     (sym (c .before .before .text-fits2 .ensures) ∙ not-true _ (c .before .if3 .taken)) (c .long-text2 .ensures)
 
 text-stages-requires : tie.Need-text-stages-requires
 text-stages-requires c κs =
     let s = c .before .before .before .before .before .before .before .before .before .before .before .before .before .before in
-    let r = room-parts (s .args .list .now) (s .args .doc .now) (s .args .work1 .now) (s .args .work2 .now) (s .args .out .now)
-    (sym (c .before .before .before .before .before .before .before .before .rooms-serve .ensures)
+    let r = areas-parts (length (s .args .work1 .now)) (length (s .args .work2 .now))
+    (sym (c .before .before .before .before .before .before .before .before .areas-serve .ensures)
     ∙ not-false _ (c .before .before .before .before .before .before .before .if1 .left))
     in (
       (
@@ -85,7 +86,7 @@ returns-4 c =
     let s = g .before .before .before .before .before .before .before .before .before .before .before in
     let e = d .text-stages .ensures in
     ended (s .args .list .now) (s .args .doc .now) (s .args .work1 .now) (s .args .work2 .now) (s .args .out .now)
-    (sym (g .before .before .before .before .before .rooms-serve .ensures) ∙ not-false _ (g .before .before .before .before .if1 .left))
+    (sym (g .before .before .before .before .before .areas-serve .ensures) ∙ not-false _ (g .before .before .before .before .if1 .left))
     (sym (g .before .before .before .text-fits .ensures) ∙ not-false _ (g .before .before .if2 .left))
     (sym (g .before .text-fits2 .ensures) ∙ not-false _ (g .if3 .left))
     (e .0) (c .before .before .before .before .before .before .clear .ensures) (e .1 .0) (c .before .before .clear2 .ensures) (e .1 .1)
@@ -94,7 +95,7 @@ pub canon-spec : {M : Type 1} → statement M
 canon-spec =
     tie.close
     (tie.spec
-    rooms-serve-requires
+    areas-serve-requires
     no-text-requires
     returns
     text-fits-requires

@@ -1,12 +1,12 @@
--- Each room, in the order of the definition.
+-- Each area, in the order of the definition.
 use mathlib.Core.Path.{sym, ap, _∙_}
 use mathlib.Core.Bool.{Bool, _&&_}
 use lib.Dec.{leb}
 use borrow.Author.Tests.{not-true, not-false}
 use Rattle.lexis.specs.Sizes.{workWords}
 use borrow.Author.Needs.{needs}
-use Rattle.canonical.proofs.rooms_serve.Statement.{statement}
-use Rattle.canonical.proofs.rooms_serve.Tie as tie
+use Rattle.documents.proofs.check.areas_serve.Statement.{statement}
+use Rattle.documents.proofs.check.areas_serve.Tie as tie
 
 work-serves-requires : tie.Need-work-serves-requires
 work-serves-requires c κs = search needs
@@ -26,5 +26,5 @@ returns-2 c =
     (ap (λ (x : Bool). x && leb workWords (s .args .work2)) (sym (c .before .before .work-serves .ensures) ∙ not-false _ (c .before .if1 .left))
     ∙ sym (c .work-serves2 .ensures))
 
-pub rooms-serve-spec : {M : Type 1} → statement M
-rooms-serve-spec = tie.close (tie.spec work-serves-requires returns work-serves-requires-2 returns-2)
+pub areas-serve-spec : {M : Type 1} → statement M
+areas-serve-spec = tie.close (tie.spec work-serves-requires returns work-serves-requires-2 returns-2)
