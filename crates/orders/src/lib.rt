@@ -97,15 +97,15 @@ fn walk(records: &[u16], n: usize, order: &[u32], firsts: &[u32], marks: &mut [u
     requires { ⌜ length (now order) ≡ n ⌝ }
     ensures { λ r. ⌜ r ≡ answerOf n (faultsFrom (rows (now (records .entry)) n) [] 0 (now (order .entry))) ⌝ }
 {
-    let mut i = 0;
-    while i < order.len() {
-        let k = order[i] as usize;
+    let mut place = 0;
+    while place < order.len() {
+        let k = order[place] as usize;
         let code = code_at(records, n, firsts, &*marks, k);
         if code != lexis::code::Code::ACCEPTED {
-            return no_text(code, i as u32, 0);
+            return no_text(code, place as u32, 0);
         }
         marks[k] = 1;
-        i += 1;
+        place += 1;
     }
     no_text(lexis::code::Code::ACCEPTED, 0, n as u32)
 }

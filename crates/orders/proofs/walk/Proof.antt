@@ -12,10 +12,10 @@ use Rattle.orders.proofs.walk.Statement.{statement}
 use Rattle.orders.proofs.walk.Tie as tie
 
 abbrev Inv-loop : tie.InvT-loop
-Inv-loop records n order firsts marks₀ i₀ marks i = Walked (rows records n) order marks₀ marks i
+Inv-loop records n order firsts marks₀ place₀ marks place = Walked (rows records n) order marks₀ marks place
 
 abbrev μ-loop : tie.MeasureT-loop
-μ-loop records n order firsts marks₀ i₀ marks i = length order - i
+μ-loop records n order firsts marks₀ place₀ marks place = length order - place
 
 loop-holds : tie.Need-loop-holds Inv-loop μ-loop
 loop-holds c =
@@ -30,7 +30,7 @@ shared-slice-read-k : tie.Need-shared-slice-read-k Inv-loop μ-loop
 shared-slice-read-k c = search needs
 
 cast-k : tie.Need-cast-k Inv-loop μ-loop
-cast-k c = omega (arith, c .shared-slice-known4 .given (c .before .before .loop .i))
+cast-k c = omega (arith, c .shared-slice-known4 .given (c .before .before .loop .place))
 
 code-at-requires : tie.Need-code-at-requires Inv-loop μ-loop
 code-at-requires c κs =
@@ -55,7 +55,7 @@ returns c =
     let a = s .args in
     let l = c .before .before .before .before .before .before .loop in
     let e = c .before .before .code-at .ensures in
-    c .no-text .ensures ∙ ap (λ (x : ℕ). answer x 0 (l .i) 0) e ∙ sym (walked-stop (rows (a .records .now) (a .n)) (a .order .now) (a .marks .now) (l .marks) (l .i) (l .inv)
+    c .no-text .ensures ∙ ap (λ (x : ℕ). answer x 0 (l .place) 0) e ∙ sym (walked-stop (rows (a .records .now) (a .n)) (a .order .now) (a .marks .now) (l .marks) (l .place) (l .inv)
     (c .before .before .before .before .before .loop-test .taken) (rows-below (a .records .now) (a .n) (s .pre .0)) (a .n) (λ q. c .before .if1 .taken (e ∙ q)))
 
 mul-marks : tie.Need-mul-marks Inv-loop μ-loop
@@ -73,8 +73,8 @@ slice-write-marks c =
     let h = row-none (a .records .now) (a .n) (l .marks) _ (sym (c .before .code-at .ensures) ∙ c .if1 .left) in
     omega (arith, h, l .inv .same, s .pre .1 .0 .1)
 
-add-i : tie.Need-add-i Inv-loop μ-loop
-add-i c = search needs
+add-place : tie.Need-add-place Inv-loop μ-loop
+add-place c = search needs
 
 loop-less : tie.Need-loop-less Inv-loop μ-loop
 loop-less c = search needs
@@ -86,7 +86,7 @@ loop-again c =
     let l = c .before .before .before .before .before .loop in
     let e = sym (c .before .code-at .ensures) ∙ c .if1 .left in
     let h = row-none (a .records .now) (a .n) (l .marks) _ e in
-    walked-next (rows (a .records .now) (a .n)) (a .order .now) (a .marks .now) (l .marks) (l .i) (l .inv)
+    walked-next (rows (a .records .now) (a .n)) (a .order .now) (a .marks .now) (l .marks) (l .place) (l .inv)
     (c .before .before .before .before .loop-test .taken) (rows-below (a .records .now) (a .n) (s .pre .0)) e (omega (arith, h, l .inv .same, s .pre .1 .0 .1))
 
 cast-no-text-2 : tie.Need-cast-no-text-2 Inv-loop μ-loop
@@ -102,7 +102,7 @@ returns-2 : tie.Need-returns-2 Inv-loop μ-loop
 returns-2 c =
     let a = c .before .before .before .before .before .before .before .args in
     let l = c .before .before .loop in
-    c .no-text2 .ensures ∙ sym (walked-end (rows (a .records .now) (a .n)) (a .order .now) (a .marks .now) (l .marks) (l .i) (a .n) (l .inv) (c .before .loop-test .left))
+    c .no-text2 .ensures ∙ sym (walked-end (rows (a .records .now) (a .n)) (a .order .now) (a .marks .now) (l .marks) (l .place) (a .n) (l .inv) (c .before .loop-test .left))
 
 pub walk-spec : {M : Type 1} → statement M
 walk-spec =
@@ -121,7 +121,7 @@ walk-spec =
     returns
     mul-marks
     slice-write-marks
-    add-i
+    add-place
     loop-less
     loop-again
     cast-no-text-2
