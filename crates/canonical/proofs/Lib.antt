@@ -24,6 +24,7 @@ pub mod Spelt
 pub mod ValueNames
 pub mod Defaults
 pub mod Uses
+pub mod BoundUses
 pub mod NamedArguments
 pub mod Alike
 pub mod CanonicalFaults

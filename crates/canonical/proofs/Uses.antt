@@ -41,10 +41,10 @@ named-uses (an-arg {p} {w = w} {xs = xs} e r n) =
 
 module _ (g : List ℕ → Bool) where
   -- how many names of a value pass the test; of values; and of those that names bind to parameters
-  abbrev size : Value → ℕ
+  abbrev pub size : Value → ℕ
   size v = tally g (spellings (namesIn v))
 
-  abbrev sizeAny : Option Value → ℕ
+  abbrev pub sizeAny : Option Value → ℕ
   sizeAny nothing = 0
   sizeAny (some v) = size v
 
@@ -52,13 +52,13 @@ module _ (g : List ℕ → Bool) where
   sizes [] = 0
   sizes (v ∷ vs) = size v + sizes vs
 
-  unfoldable sizeNamed : List Param → List Arg → ℕ
+  unfoldable pub sizeNamed : List Param → List Arg → ℕ
   sizeNamed [] xs = 0
   sizeNamed (p ∷ ps) xs = sizeAny (byName (p .name) xs) + sizeNamed ps xs
 
   -- ---- the values that are bound
 
-  read-size : (x : Value) (p : Param) {v : Val} → readAt x (p .ty) ≡ some v → tally g (valNames v) ≡ size x
+  pub read-size : (x : Value) (p : Param) {v : Val} → readAt x (p .ty) ≡ some v → tally g (valNames v) ≡ size x
   read-size x p r = sym (ap (tally g) (read-names x (p .ty) r))
 
   value-size : (p : Param) → ((d : Value) → p .default ≡ some d → namesIn d ≡ []) → (a b : Option Value) {v : Val}
@@ -116,12 +116,12 @@ module _ (g : List ℕ → Bool) where
   no-named [] = refl
   no-named (p ∷ ps) = omega (arith, no-named ps)
 
-  positional-named : (v : Value) (xs : List Arg) (ps : List Param) → sizeNamed ps (positional v ∷ xs) ≡ sizeNamed ps xs
+  pub positional-named : (v : Value) (xs : List Arg) (ps : List Param) → sizeNamed ps (positional v ∷ xs) ≡ sizeNamed ps xs
   unfolding sizeNamed byName
   positional-named v xs [] = refl
   positional-named v xs (p ∷ ps) = ap (λ (n : ℕ). sizeAny (byName (p .name) xs) + n) (positional-named v xs ps)
 
-  uses-more : (a : Arg) (xs : List Arg) → tally g (spellings (usedIn (a ∷ xs))) ≡ size (valueOf a) + tally g (spellings (usedIn xs))
+  pub uses-more : (a : Arg) (xs : List Arg) → tally g (spellings (usedIn (a ∷ xs))) ≡ size (valueOf a) + tally g (spellings (usedIn xs))
   unfolding flatMap
   uses-more a xs = ap (tally g) (spellings-append (namesIn (valueOf a)) (usedIn xs)) ∙ tally-append g (spellings (namesIn (valueOf a))) (spellings (usedIn xs))
 

@@ -30,8 +30,8 @@ use Rattle.writing.proofs.Good.{Each}
 
 -- ---- lists without faults
 
--- no fault in a row is none in each part
-pub row-none : (xss : List (List Fault)) → flatten xss ≡ [] → Each (λ (xs : List Fault). xs ≡ []) xss
+-- nothing in a row is nothing in each part
+pub row-none : {A : Type 0} (xss : List (List A)) → flatten xss ≡ [] → Each (λ (xs : List A). xs ≡ []) xss
 unfolding flatten
 row-none [] h = tt
 row-none (xs ∷ xss) h = let e = append-eq-nil-iff {p = xs} {q = flatten xss} .0 h in (e .0, row-none xss (e .1))
