@@ -1,9 +1,9 @@
 -- The faults of an order are the places at fault, each with its code, and there are none exactly where the order is in order. In order:
 -- numbers before a place; a fault of one place; of all places; the first one; no fault.
-use mathlib.Core.Path.{_≡_, refl, sym, ap, subst, _∙_}
+use mathlib.Core.Path.{_≡_, refl, sym, ap, ap₂, subst, _∙_}
 use mathlib.Core.Bool.{Bool, true, false, cond, _&&_, _||_, true≢false, false≢true}
 use mathlib.Core.Logic.{_⊎_, inl, inr, _↔_}
-use mathlib.Core.List.{List, [], _∷_, _++_, cons≢nil, List·Memᴰ, List·Memᴰ·head, List·Memᴰ·tail, List·Memᴰ·cases-cons, List·Memᴰ·append-cases}
+use mathlib.Core.List.{List, [], _∷_, _++_, flatten, cons≢nil, List·Memᴰ, List·Memᴰ·head, List·Memᴰ·tail, List·Memᴰ·cases-cons, List·Memᴰ·append-cases}
 use mathlib.Core.List.{List·Memᴰ·not-nil, Memᴰ·append-left, Memᴰ·append-right}
 use Prim.Native.Nat.{ℕ, zero, suc, _+_, _<_, _≤_}
 use native.Mathlib.Nat.{le-of-suc-le-suc, not-suc-le-zero}
@@ -14,7 +14,7 @@ use lib.Seq.{take-suc, drop-cons}
 use borrow.Author.Tests.{eqb-true, eqb-false, eq-eqb, ne-eqb, ltb-true, ltb-false, lt-ltb, le-ltb}
 use Rattle.lists.specs.Fault.{Fault, fault, unless, Before, by-place, by-code, by-detail, IsFirst}
 use Rattle.orders.specs.Code as Code
-use Rattle.orders.specs.Order.{stands, allStand, placeFaults, faultsFrom, wrongLength, orderFaults}
+use Rattle.orders.specs.Order.{stands, allStand, outOfRange, repeatedCall, earlyUse, placeFaults, faultsFrom, wrongLength, orderFaults}
 use Rattle.orders.specs.InOrder.{Permutation, NeededAt, Earlier, InOrder, AtFault, wrong-length, out-of-range, repeated-call, early-use, FirstAtFault}
 use Rattle.orders.proofs.Places.{PlaceFault, of-range, of-repeat, of-use, unless-is, is-unless, place-fault, fault-place}
 use Rattle.orders.proofs.Permutations.{permuted-below, permuted-once, permutation}
@@ -62,6 +62,35 @@ lacking js (w ∷ ws) m d e = go (List·Memᴰ·cases-cons d) (stands js w) refl
     go x false q r = refl
     go (inl z) true q r = absurd (true≢false (sym q ∙ ap (stands js) (sym z) ∙ e))
     go (inr d) true q r = r d
+
+-- whether all stand before depends on which they are
+all-same : (js ws vs : List ℕ) → ((m : ℕ) → List·Memᴰ m ws ↔ List·Memᴰ m vs) → allStand js ws ≡ allStand js vs
+all-same js ws vs h = go (allStand js ws) (allStand js vs) refl refl
+  where
+    go : (a b : Bool) → allStand js ws ≡ a → allStand js vs ≡ b → allStand js ws ≡ allStand js vs
+    go true true e f = e ∙ sym f
+    go false false e f = e ∙ sym f
+    go false true e f =
+        let l = lacks js ws e in
+        absurd (true≢false (sym f ∙ lacking js vs (l .0) (h (l .0) .0 (l .1 .0)) (l .1 .1)))
+    go true false e f =
+        let l = lacks js vs f in
+        absurd (true≢false (sym e ∙ lacking js ws (l .0) (h (l .0) .1 (l .1 .0)) (l .1 .1)))
+
+-- orders of as many calls that need the same calls have the same faults
+module _ (ns ms : List (List ℕ)) (e : length ns ≡ length ms) (h : (k m : ℕ) → List·Memᴰ m (getD ns k []) ↔ List·Memᴰ m (getD ms k [])) where
+  from-same : (js : List ℕ) (p : ℕ) (ks : List ℕ) → faultsFrom ns js p ks ≡ faultsFrom ms js p ks
+  unfolding faultsFrom placeFaults outOfRange earlyUse
+  from-same js p [] = refl
+  from-same js p (k ∷ ks) =
+      let place : (n : ℕ) (b : Bool) → List Fault = λ n b.
+      flatten (unless (ltb k n) (fault Code.outOfRange p) ∷ repeatedCall js p k ∷ unless b (fault Code.earlyUse p) ∷ []) in
+      ap₂ (λ (xs ys : List Fault). xs ++ ys) (ap₂ place e (all-same js (getD ns k []) (getD ms k []) (h k))) (from-same (js ++ (k ∷ [])) (suc p) ks)
+
+  pub faults-same : (ks : List ℕ) → orderFaults ns ks ≡ orderFaults ms ks
+  unfolding orderFaults wrongLength
+  faults-same ks =
+      ap₂ (λ (n : ℕ) (xs : List Fault). unless (eqb (length ks) n) (fault Code.wrongLength 0) ++ xs) e (from-same [] 0 ks)
 
 -- ---- one place
 

@@ -63,7 +63,7 @@ module _ (list doc : List ℕ) (l : OrderRoom) (ks : List ℕ) where
 
   module _ (hs : List Header) (d : Document) (r : orderServes l ≡ true) (a : AcceptedList list hs) (b : AcceptedDocument hs doc d) where
     -- the faults of the order decide
-    answered : (o : Option Fault) → first (orderFaults (needs (d .calls)) ks) ≡ o
+    pub answered : (o : Option Fault) → first (orderFaults (needs (d .calls)) ks) ≡ o
         → orderAnswer list doc l ks ≡ stageAnswer (rulesStage 0 (record { headers = hs; document = d }) o) callCount
     unfolding orderAnswer judged orderStages orderStage
     answered o e =
