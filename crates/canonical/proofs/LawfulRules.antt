@@ -19,7 +19,7 @@ use Rattle.documents.specs.Wiring.{strangers, again, unwiredAfter, isExternal, 
 use Rattle.documents.specs.DocumentRules.{documentCounts, graphRepeats, documentFaults}
 use Rattle.documents.proofs.Sought.{same-is, same-self}
 use Rattle.writing.specs.Plan.{PlanCall, Plan, spellings}
-use Rattle.writing.specs.Lawful.{Among, Distinct, assigns, uses, allAssigns, allUses, Lawful}
+use Rattle.writing.specs.Lawful.{Among, AllAmong, Distinct, assigns, uses, allAssigns, allUses, Lawful}
 use Rattle.writing.proofs.Fit.{PlanFits}
 use Rattle.writing.proofs.PlanExists.{row-none}
 use Rattle.canonical.proofs.Shape.{CanonCall, CanonCalls, no-calls, a-call, CanonDocument}
@@ -28,7 +28,7 @@ use Rattle.canonical.proofs.Spelt.{spellings-append, few-places}
 use Rattle.canonical.proofs.ValueNames.{read-names}
 use Rattle.canonical.proofs.Uses.{named-uses}
 use Rattle.canonical.proofs.CanonicalFaults.{version-clean, all-declared, all-bound, all-matched}
-use Rattle.canonical.proofs.PlanNames.{AllAmong, no-stranger, no-member, no-repeat, few-names}
+use Rattle.canonical.proofs.PlanNames.{no-stranger, no-member, no-repeat, few-names}
 use Rattle.canonical.proofs.LawfulFits.{Every, every-none, every-more, names-are, some-calls, every-call}
 
 -- ---- the names of calls
@@ -37,10 +37,10 @@ both-spelt : (ts us : List Token) {vs ws : List (List ℕ)} → spellings ts ≡
 both-spelt ts us e f = spellings-append ts us ∙ ap₂ (λ (v w : List (List ℕ)). v ++ w) e f
 
 module _ {hs : List Header} where
-  call-assigns : {c : PlanCall} {t : Call} → CanonCall hs c t → spellings (assigned t) ≡ assigns c
+  pub call-assigns : {c : PlanCall} {t : Call} → CanonCall hs c t → spellings (assigned t) ≡ assigns c
   call-assigns {t = t} k = read-names (t .left) (resultType (k .header .results)) (k .left)
 
-  call-uses : {c : PlanCall} {t : Call} → CanonCall hs c t → spellings (used t) ≡ uses c
+  pub call-uses : {c : PlanCall} {t : Call} → CanonCall hs c t → spellings (used t) ≡ uses c
   unfolding used uses
   call-uses k = named-uses (k .args)
 
@@ -65,7 +65,7 @@ module _ {hs : List Header} where
 -- ---- 22
 
 -- each name that a call uses is among these, or assigned by a call before it
-abbrev Wired : List (List ℕ) → List PlanCall → Type 0
+abbrev pub Wired : List (List ℕ) → List PlanCall → Type 0
 Wired known cs = (before : List PlanCall) (c : PlanCall) (after : List PlanCall) → cs ≡ before ++ (c ∷ after) → AllAmong (uses c) (known ++ allAssigns before)
 
 wired-none : (known : List (List ℕ)) → Wired known []

@@ -17,8 +17,8 @@ use Rattle.lists.specs.ListRules.{over}
 use Rattle.documents.specs.Wiring.{strangers}
 use Rattle.documents.proofs.Sought.{same-is, same-self}
 use Rattle.writing.specs.Plan.{spellings}
-use Rattle.writing.specs.Lawful.{times, Among, Distinct}
-use Rattle.canonical.proofs.Spelt.{spellings-append, isIn, among-in, tally, tally-append, those-tally, length-zero, fresh, no-fault, few-places}
+use Rattle.writing.specs.Lawful.{times, Among, AllAmong, Distinct}
+use Rattle.canonical.proofs.Spelt.{spellings-append, isIn, among-in, tally, tally-append, Within, those-tally, length-zero, fresh, no-fault, few-places}
 
 -- ---- how often a name stands
 
@@ -27,22 +27,25 @@ unfolding times tally
 times-tally w [] = refl
 times-tally w (v ∷ ws) = ap (λ (n : ℕ). cond (sameBytes v w) (suc n) n) (times-tally w ws)
 
-times-append : (w : List ℕ) (us vs : List (List ℕ)) → times w (us ++ vs) ≡ times w us + times w vs
+pub times-append : (w : List ℕ) (us vs : List (List ℕ)) → times w (us ++ vs) ≡ times w us + times w vs
 times-append w us vs =
     omega (arith, times-tally w (us ++ vs), times-tally w us, times-tally w vs, tally-append (λ v. sameBytes v w) us vs)
 
 -- a name stands in front of others once more than among them, and another as often
-times-first : (w : List ℕ) (ws : List (List ℕ)) → times w (w ∷ ws) ≡ suc (times w ws)
+pub times-first : (w : List ℕ) (ws : List (List ℕ)) → times w (w ∷ ws) ≡ suc (times w ws)
 unfolding times
 times-first w ws = simp (same-self w)
 
-times-later : (w v : List ℕ) (ws : List (List ℕ)) → times w ws ≤ times w (v ∷ ws)
+pub times-later : (w v : List ℕ) (ws : List (List ℕ)) → times w ws ≤ times w (v ∷ ws)
 unfolding times
 times-later w v ws = go (sameBytes v w)
   where
     go : (b : Bool) → times w ws ≤ cond b (suc (times w ws)) (times w ws)
     go true = omega arith
     go false = omega arith
+
+pub within-among : (vs ws : List (List ℕ)) → Within vs ws → AllAmong vs ws
+within-among vs ws h w a = omega (arith, h (λ v. sameBytes v w), times-tally w vs, times-tally w ws)
 
 -- ---- tests that no name passes
 
@@ -74,8 +77,11 @@ in-times (v ∷ vs) w = go (sameBytes v w) (in-times vs w)
     go true e = sym (lt-ltb 0 (suc (times w vs)) (omega arith))
     go false e = e
 
-is-in : (ws : List (List ℕ)) (w : List ℕ) → (isIn ws w ≡ true) ↔ Among w ws
+pub is-in : (ws : List (List ℕ)) (w : List ℕ) → (isIn ws w ≡ true) ↔ Among w ws
 is-in ws w = (λ h. ltb-true 0 (times w ws) (sym (in-times ws w) ∙ h), λ a. in-times ws w ∙ lt-ltb 0 (times w ws) a)
+
+pub not-in : (ws : List (List ℕ)) (w : List ℕ) → isIn ws w ≡ false → times w ws ≡ 0
+not-in ws w h = let n = ltb-false 0 (times w ws) (sym (in-times ws w) ∙ h) in omega arith
 
 those-none : (f : Bool → Bool) (ks ts : List Token)
     → (those (λ t. f (isAmong ks t)) ts ≡ []) ↔ ((w : List ℕ) → Among w (spellings ts) → f (isIn (spellings ks) w) ≡ false)
@@ -86,10 +92,7 @@ those-none f ks ts =
       λ h. length-zero (those (λ t. f (isAmong ks t)) ts) (omega (arith, none-tally g (spellings ts) h)),
     )
 
--- the names ws are all among vs; none of them is
-abbrev pub AllAmong : List (List ℕ) → List (List ℕ) → Type 0
-AllAmong ws vs = (w : List ℕ) → Among w ws → Among w vs
-
+-- none of the names ws is among vs
 abbrev pub NoneAmong : List (List ℕ) → List (List ℕ) → Type 0
 NoneAmong ws vs = (w : List ℕ) → Among w ws → Among w vs → ⊥
 
@@ -125,9 +128,7 @@ one-more : (w : List ℕ) (seen : List Token) (t : Token) (ts : List Token)
 one-more w seen t ts = ap (times w) (spellings-append seen (t ∷ ts)) ∙ times-append w (spellings seen) (t .bytes ∷ spellings ts)
 
 unseen : (seen : List Token) (t : Token) → isAmong seen t ≡ false → times (t .bytes) (spellings seen) ≡ 0
-unseen seen t h =
-    let n = ltb-false 0 (times (t .bytes) (spellings seen)) (sym (in-times (spellings seen) (t .bytes)) ∙ sym (among-in seen t) ∙ h) in
-    omega arith
+unseen seen t h = not-in (spellings seen) (t .bytes) (sym (among-in seen t) ∙ h)
 
 distinct-more : (seen : List Token) (t : Token) → Distinct (spellings seen) → isAmong seen t ≡ false → Distinct (spellings (seen ++ (t ∷ [])))
 unfolding times

@@ -11,11 +11,10 @@ use lib.Dec.{leb}
 use lib.ListN.{length, drop}
 use lib.Seq.{sets, sets-eq, take-append-seam}
 use borrow.Author.Tests.{le-leb, lt-leb, leb-true}
-use Rattle.lexis.specs.Sizes.{maxText, maxTokens, maxBrackets, workWords}
+use Rattle.lexis.specs.Sizes.{maxText, maxTokens, workWords}
 use Rattle.lexis.specs.Code as Code
 use Rattle.lexis.specs.Answer.{answer}
 use Rattle.syntax.specs.Tree.{Header, Document}
-use Rattle.syntax.proofs.Theorems.{one-document}
 use Rattle.lists.specs.Answer.{Stage, pass, stop, andThen, guard, guarded, stageAnswer, tableAfter}
 use Rattle.lists.specs.Accepted.{AcceptedList}
 use Rattle.documents.specs.Answer.{bothStages, Checked, CheckRoom, checkServes, checked, callCount, checkAnswer}
@@ -28,7 +27,7 @@ use Rattle.writing.specs.Layout.{documentPieces, canonical}
 use Rattle.canonical.specs.Answer.{layoutOf, writingStages, textStages, canonServes, written, canonAnswer, outputAfter}
 use Rattle.canonical.specs.Demand.{HasPlan, Keeps, Lent, roomOf, Serves, numbers, output, bytesWritten}
 use Rattle.writing.proofs.PlanExists.{plan-exists}
-use Rattle.canonical.proofs.Lawful.{lawful-plan, lawful-accepted}
+use Rattle.canonical.proofs.Lawful.{lawful-plan, lawful-accepted, one-tree}
 use Rattle.canonical.proofs.CanonStages.{text-codes}
 
 -- ---- plans
@@ -39,11 +38,7 @@ has-plan list doc hs d a b = let x = plan-exists hs d (a .lawful) (b .lawful) in
 
 -- and no other
 pub one-plan : (hs : List Header) (doc : List ℕ) (p q : Plan) → HasPlan hs doc p → HasPlan hs doc q → p ≡ q
-one-plan hs doc p q x y =
-    let e : x .accepted .tokens ≡ y .accepted .tokens = cc (x .accepted .lexed, y .accepted .lexed) in
-    let t : x .tree ≡ y .tree = one-document maxBrackets maxBrackets (y .accepted .tokens) (x .tree) (y .tree) (rw e at (x .accepted .spelt))
-    (y .accepted .spelt) in
-    cc (x .planned, y .planned, t)
+one-plan hs doc p q x y = cc (x .planned, y .planned, one-tree hs doc (x .tree) (y .tree) (x .accepted) (y .accepted))
 
 -- ---- the stages of canon
 

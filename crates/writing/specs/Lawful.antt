@@ -26,10 +26,15 @@ unfoldable pub times : List ℕ → List (List ℕ) → ℕ
 times w [] = 0
 times w (v ∷ vs) = let n = times w vs in cond (sameBytes v w) (suc n) n
 
--- a name stands among these; no name stands twice
+-- a name stands among these
 abbrev pub Among : List ℕ → List (List ℕ) → Type 0
 Among w ws = 0 < times w ws
 
+-- each name that stands among the first stands among the second
+abbrev pub AllAmong : List (List ℕ) → List (List ℕ) → Type 0
+AllAmong ws vs = (w : List ℕ) → Among w ws → Among w vs
+
+-- no name stands twice
 abbrev pub Distinct : List (List ℕ) → Type 0
 Distinct ws = (w : List ℕ) → times w ws ≤ 1
 
@@ -105,10 +110,9 @@ pub record Lawful (hs : List Header) (p : Plan) : Type 0 where
   pub header-distinct : Distinct (p .inputs ++ p .outputs)
   pub assigned-once : Distinct (allAssigns (p .calls))
   -- each identifier that a call uses is assigned by a call before it
-  pub wired : (before : List PlanCall) (c : PlanCall) (after : List PlanCall) → p .calls ≡ before ++ (c ∷ after) → (w : List ℕ) → Among w (uses c)
-      → Among w (allAssigns before)
+  pub wired : (before : List PlanCall) (c : PlanCall) (after : List PlanCall) → p .calls ≡ before ++ (c ∷ after) → AllAmong (uses c) (allAssigns before)
   -- each input is assigned, and an identifier that a call assigns is an input exactly when the call's operation is `external`
-  pub fed : (w : List ℕ) → Among w (p .inputs) → Among w (allAssigns (p .calls))
+  pub fed : AllAmong (p .inputs) (allAssigns (p .calls))
   pub external : (c : PlanCall) → List·Memᴰ c (p .calls) → (w : List ℕ) → Among w (assigns c) → Among w (p .inputs) ↔ (c .op ≡ ascii "external")
   -- each output is assigned
-  pub made : (w : List ℕ) → Among w (p .outputs) → Among w (allAssigns (p .calls))
+  pub made : AllAmong (p .outputs) (allAssigns (p .calls))
