@@ -13,7 +13,7 @@ use Rattle.lists.specs.Accepted.{AcceptedList}
 use Rattle.writing.specs.Plan.{Plan}
 use Rattle.writing.specs.Pieces.{Piece}
 use Rattle.writing.specs.Layout.{documentPieces, canonical}
-use Rattle.writing.specs.Lawful.{times, Among, AllAmong, Distinct, assigns, uses, allAssigns, allUses, Lawful}
+use Rattle.writing.specs.Lawful.{times, Among, AllAmong, Distinct, assigns, uses, allAssigns, allUses, LawfulParts, WiredInOrder, Lawful}
 use Rattle.orders.specs.Order.{needs}
 use Rattle.orders.specs.InOrder.{Permutation, InOrder}
 use Rattle.orders.proofs.Permutations.{permuted-below}
@@ -22,7 +22,6 @@ use Rattle.canonical.specs.Arranged.{arranged, arrangedPlan, callText, R
 use Rattle.canonical.proofs.Shape.{CanonCalls}
 use Rattle.canonical.proofs.Alike.{Alike, document-alike}
 use Rattle.canonical.proofs.PlanNames.{times-append}
-use Rattle.canonical.proofs.LawfulRules.{Wired}
 use Rattle.canonical.proofs.Lawful.{lawful-plan, lawful-tree, lawful-accepted, canonical-tree}
 use Rattle.canonical.proofs.Arrangement.{flatten-map, arranged-map, arranged-member, arranged-length, Additive, arranged-count, length-additive}
 use Rattle.canonical.proofs.Arrangement.{length-between}
@@ -96,17 +95,17 @@ module _ (p : Plan) (ks : List ℕ) (o : Permutation (length (p .calls)) ks) whe
   abbrev Kept : Type 0
   Kept = RowsWired (arranged ks (map assigns (p .calls))) (arranged ks (map uses (p .calls)))
 
-  wired-kept : Wired [] (arranged ks (p .calls)) → Kept
+  wired-kept : WiredInOrder (arranged ks (p .calls)) → Kept
   wired-kept h =
       subst₂ RowsWired (arranged-map assigns ks (p .calls)) (arranged-map uses ks (p .calls)) (wired-rows (arranged ks (p .calls)) h)
 
-  kept-wired : Kept → Wired [] (arranged ks (p .calls))
+  kept-wired : Kept → WiredInOrder (arranged ks (p .calls))
   kept-wired h =
       rows-wired (arranged ks (p .calls))
       (subst₂ RowsWired (sym (arranged-map assigns ks (p .calls))) (sym (arranged-map uses ks (p .calls))) h)
 
-  kept-lawful : {hs : List Header} → Lawful hs p → Kept → Lawful hs (arrangedPlan ks p)
-  kept-lawful k h = record {
+  arranged-parts : {hs : List Header} → LawfulParts hs p → LawfulParts hs (arrangedPlan ks p)
+  arranged-parts k = record {
     graph = k .graph;
     inputs = k .inputs;
     outputs = k .outputs;
@@ -119,7 +118,6 @@ module _ (p : Plan) (ks : List ℕ) (o : Permutation (length (p .calls)) ks) whe
     few-used = omega (arith, k .few-used, used-as-many);
     header-distinct = k .header-distinct;
     assigned-once = λ w. omega (arith, k .assigned-once w, assigned-as-often w);
-    wired = kept-wired h;
     fed = λ w a. omega (arith, k .fed w a, assigned-as-often w);
     external = λ c m. k .external c (arranged-member ks (p .calls) m);
     made = λ w a. omega (arith, k .made w a, assigned-as-often w);
@@ -159,9 +157,9 @@ module _ (list doc : List ℕ) (hs : List Header) (p : Plan) (ks : List ℕ) (l 
   pub arranged-lawful : Lawful hs (arrangedPlan ks p)
   arranged-lawful =
       let k = lawful-plan list doc hs p l h in
-      kept-lawful p ks order-permutes k
-      (ordered-wired (map assigns (p .calls)) (map uses (p .calls)) ks (rows-permuted p ks order-permutes) (as-many-rows p ks order-permutes)
-      (wired-rows (p .calls) (k .wired)) (needs cs) needed o)
+      let w = ordered-wired (map assigns (p .calls)) (map uses (p .calls)) ks (rows-permuted p ks order-permutes) (as-many-rows p ks order-permutes)
+      (wired-rows (p .calls) (k .wired)) (needs cs) needed o in
+      record { parts = arranged-parts p ks order-permutes (k .parts); wired = kept-wired p ks order-permutes w }
 
   -- and the arranged text is accepted, with the arranged plan
   pub arranged-accepted : Keeps hs p → HasPlan hs (canonical hs (arrangedPlan ks p)) (arrangedPlan ks p)
@@ -184,7 +182,7 @@ module _ (list : List ℕ) (hs : List Header) (p : Plan) (ks : List ℕ) (l : Ac
   uses-arranged = canon-used (canonical-tree list hs (arrangedPlan ks p) l g′ .calls) ∙ arranged-map uses ks (p .calls)
 
   distinct-rows : Distinct (flatten (map assigns (p .calls)))
-  distinct-rows = subst Distinct (sym (rows-assign (p .calls))) (lawful-plan list (canonical hs p) hs p l g .assigned-once)
+  distinct-rows = subst Distinct (sym (rows-assign (p .calls))) (lawful-plan list (canonical hs p) hs p l g .parts .assigned-once)
 
   kept-rows : Kept p ks o
   kept-rows = wired-kept p ks o (lawful-plan list (canonical hs (arrangedPlan ks p)) hs (arrangedPlan ks p) l g′ .wired)

@@ -62,7 +62,7 @@ lawful-plan list doc hs p l h = reads-lawful list doc hs p l (plan-reads hs doc 
 pub lawful-tree : (list : List ℕ) (hs : List Header) (p : Plan) → AcceptedList list hs → Lawful hs p
     → (d : Document) × (IsDocument maxBrackets (tokensAt 0 (documentPieces hs p)) d × (CanonDocument hs p d × (documentFaults hs d ≡ [])))
 lawful-tree list hs p l k =
-    let x = document-back hs p (lawful-fits list hs p l k) in
+    let x = document-back hs p (lawful-fits list hs p l (k .parts)) in
     (x .0, (x .1 .0, (x .1 .1, lawful-clean (x .1 .1) k)))
 
 pub lawful-reads : (list : List ℕ) (hs : List Header) (p : Plan) → AcceptedList list hs → Lawful hs p → ReadsAs hs (canonical hs p) p
@@ -71,7 +71,7 @@ lawful-reads list hs p l k =
     record {
       tree = x .0;
       tokens = tokensAt 0 (documentPieces hs p);
-      placed = placed-canonical hs p (lawful-fits list hs p l k);
+      placed = placed-canonical hs p (lawful-fits list hs p l (k .parts));
       spelt = x .1 .0;
       lawful = x .1 .1 .1;
       planned = canon-plan hs p (x .0) (x .1 .1 .0);
@@ -88,7 +88,7 @@ lawful-document list hs p l k w =
     let a : AcceptedDocument hs (canonical hs p) (x .0) = record {
       short = k .bytes;
       tokens = tokensAt 0 (documentPieces hs p);
-      lexed = lex-canonical hs p (lawful-fits list hs p l w) (k .tokens);
+      lexed = lex-canonical hs p (lawful-fits list hs p l (w .parts)) (k .tokens);
       spelt = x .1 .0;
       lawful = x .1 .1 .1;
     } in
@@ -119,5 +119,5 @@ accepted-keeps hs p f a = record { bytes = a .short; tokens = go (leb (length (d
 pub canonical-tree : (list : List ℕ) (hs : List Header) (p : Plan) → AcceptedList list hs → (g : HasPlan hs (canonical hs p) p) → CanonDocument hs p (g .tree)
 canonical-tree list hs p l g =
     let w = lawful-plan list (canonical hs p) hs p l g in
-    let x = lawful-document list hs p l (accepted-keeps hs p (lawful-fits list hs p l w) (g .accepted)) w in
+    let x = lawful-document list hs p l (accepted-keeps hs p (lawful-fits list hs p l (w .parts)) (g .accepted)) w in
     subst (CanonDocument hs p) (one-tree hs (canonical hs p) (x .0) (g .tree) (x .1 .0) (g .accepted)) (x .1 .1)

@@ -16,7 +16,7 @@ use Rattle.lists.specs.Accepted.{AcceptedList}
 use Rattle.writing.specs.Plan.{PlanCall, Plan}
 use Rattle.writing.specs.Fit.{IsName}
 use Rattle.writing.specs.Lawful as Law
-use Rattle.writing.specs.Lawful.{Names, Matches, one, Valued, no-value, a-value, LawfulCall, Lawful}
+use Rattle.writing.specs.Lawful.{Names, Matches, one, Valued, no-value, a-value, LawfulCall, LawfulParts}
 use Rattle.writing.proofs.Fit.{LeftFits, alone, several, FitsParams, no-param, a-param, CallFits, CallsFit, one-call, more-calls, NamesFit, one-name}
 use Rattle.writing.proofs.Fit.{more-names, PlanFits}
 use Rattle.writing.proofs.Good.{Each}
@@ -121,7 +121,7 @@ every-call {hs} (more-calls {c} {cs} f r) = every-more (LawfulCall hs) c cs .0 (
 
 -- ---- plans
 
-pub lawful-fits : (list : List ℕ) (hs : List Header) (p : Plan) → AcceptedList list hs → Lawful hs p → PlanFits hs p
+pub lawful-fits : (list : List ℕ) (hs : List Header) (p : Plan) → AcceptedList list hs → LawfulParts hs p → PlanFits hs p
 lawful-fits list hs p l k = record {
   graph = k .graph;
   inputs = names-fit (k .inputs);

@@ -2,7 +2,7 @@
 -- 23; 12; all rules, each way.
 use mathlib.Core.Path.{_≡_, refl, sym, ap, ap₂, subst, _∙_}
 use mathlib.Core.Bool.{Bool, true, false, cond, true≢false}
-use mathlib.Core.List.{List, [], _∷_, _++_, map, flatMap, append-nil, append-assoc, append-eq-nil-iff, nil≢cons, head-eq-of-cons-eq, tail-eq-of-cons-eq}
+use mathlib.Core.List.{List, [], _∷_, _++_, map, flatMap, flatten, append-nil, append-assoc, append-eq-nil-iff, nil≢cons, head-eq-of-cons-eq, tail-eq-of-cons-eq}
 use mathlib.Core.Logic.{_↔_, Iff·trans, Iff·and}
 use Prim.Native.Nat.{ℕ, suc, _≤_}
 use lib.ListN.{length, length-map}
@@ -15,11 +15,11 @@ use Rattle.lists.specs.Fault.{faults, starts}
 use Rattle.lists.specs.Names.{those, isAmong, startOf, assigned, used, allAssigned, allUsed}
 use Rattle.lists.specs.Reading.{resultType}
 use Rattle.lists.specs.ListRules.{over}
-use Rattle.documents.specs.Wiring.{strangers, again, unwiredAfter, isExternal, misfedBy, misfed, unmade}
+use Rattle.documents.specs.Wiring.{strangers, again, unwiredAfter, unwired, isExternal, misfedBy, misfed, unmade}
 use Rattle.documents.specs.DocumentRules.{documentCounts, graphRepeats, documentFaults}
 use Rattle.documents.proofs.Sought.{same-is, same-self}
 use Rattle.writing.specs.Plan.{PlanCall, Plan, spellings}
-use Rattle.writing.specs.Lawful.{Among, AllAmong, Distinct, assigns, uses, allAssigns, allUses, Lawful}
+use Rattle.writing.specs.Lawful.{Among, AllAmong, Distinct, assigns, uses, allAssigns, allUses, LawfulParts, WiredInOrder, Lawful}
 use Rattle.writing.proofs.Fit.{PlanFits}
 use Rattle.writing.proofs.PlanExists.{row-none}
 use Rattle.canonical.proofs.Shape.{CanonCall, CanonCalls, no-calls, a-call, CanonDocument}
@@ -65,7 +65,7 @@ module _ {hs : List Header} where
 -- ---- 22
 
 -- each name that a call uses is among these, or assigned by a call before it
-abbrev pub Wired : List (List ℕ) → List PlanCall → Type 0
+abbrev Wired : List (List ℕ) → List PlanCall → Type 0
 Wired known cs = (before : List PlanCall) (c : PlanCall) (after : List PlanCall) → cs ≡ before ++ (c ∷ after) → AllAmong (uses c) (known ++ allAssigns before)
 
 wired-none : (known : List (List ℕ)) → Wired known []
@@ -159,6 +159,18 @@ module _ {hs : List Header} {p : Plan} {t : Document} (k : CanonDocument hs p t)
       (append-eq-nil-iff {p = faults 23 (starts (strangers (allAssigned (t .calls)) (t .inputs)))} {q = flatMap (misfedBy (t .inputs)) (t .calls)})
       (Iff·and (all-made 23 (t .inputs) (k .inputs)) (calls-fed (t .inputs) (k .inputs) (k .calls)))
 
+  -- 12
+  counts-clean : LawfulParts hs p → documentCounts t ≡ []
+  unfolding documentCounts
+  counts-clean l =
+      all-empty
+      (a-list (few-names maxInputs (t .inputs) (k .inputs) .1 (l .few-inputs))
+      (a-list (few-names maxOutputs (t .outputs) (k .outputs) .1 (l .few-outputs))
+      (a-list (few-calls (k .calls) .1 (l .few-calls))
+      (a-list (few-names maxAssigned (allAssigned (t .calls)) (all-assign (k .calls)) .1 (l .few-assigned))
+      (a-list (few-names maxUses (allUsed (t .calls)) (all-use (k .calls)) .1 (l .few-used))
+      no-list)))))
+
   -- what the rules say, of a plan that fits
   pub clean-lawful : PlanFits hs p → documentFaults hs t ≡ [] → Lawful hs p
   unfolding documentFaults documentCounts unmade
@@ -167,7 +179,7 @@ module _ {hs : List Header} {p : Plan} {t : Document} (k : CanonDocument hs p t)
       let counts = row-none _ (r .1 .0) in
       let wires = r .1 .1 .1 .1 .1 .1 in
       let fed = all-fed .0 (wires .1 .1 .0) in
-      record {
+      let parts : LawfulParts hs p = record {
         graph = f .graph;
         inputs = names-are (f .inputs);
         outputs = names-are (f .outputs);
@@ -180,36 +192,31 @@ module _ {hs : List Header} {p : Plan} {t : Document} (k : CanonDocument hs p t)
         few-used = few-names maxUses (allUsed (t .calls)) (all-use (k .calls)) .0 (counts .1 .1 .1 .1 .0);
         header-distinct = graph-distinct .0 (r .1 .1 .0);
         assigned-once = assigned-once .0 (wires .0);
-        wired = calls-wired [] refl (k .calls) .0 (wires .1 .0);
         fed = fed .0;
         external = fed .1;
         made = all-made 24 (t .outputs) (k .outputs) .0 (wires .1 .1 .1 .0);
-      }
+      } in
+      record { parts = parts; wired = calls-wired [] refl (k .calls) .0 (wires .1 .0) }
 
-  -- and the other way
-  counts-clean : Lawful hs p → documentCounts t ≡ []
-  unfolding documentCounts
-  counts-clean l =
-      all-empty
-      (a-list (few-names maxInputs (t .inputs) (k .inputs) .1 (l .few-inputs))
-      (a-list (few-names maxOutputs (t .outputs) (k .outputs) .1 (l .few-outputs))
-      (a-list (few-calls (k .calls) .1 (l .few-calls))
-      (a-list (few-names maxAssigned (allAssigned (t .calls)) (all-assign (k .calls)) .1 (l .few-assigned))
-      (a-list (few-names maxUses (allUsed (t .calls)) (all-use (k .calls)) .1 (l .few-used))
-      no-list)))))
+  -- and the other way: but for its wires the tree of a plan breaks no rule
+  pub parts-clean : LawfulParts hs p → documentFaults hs t ≡ unwired t
+  unfolding documentFaults unmade flatten
+  parts-clean l =
+      simp (
+        version-clean k,
+        counts-clean l,
+        graph-distinct .1 (l .header-distinct),
+        all-declared (k .calls),
+        all-bound (k .calls),
+        all-matched (k .calls),
+        assigned-once .1 (l .assigned-once),
+        all-fed .1 (l .fed, l .external),
+        all-made 24 (t .outputs) (k .outputs) .1 (l .made),
+      )
+      (append-nil (unwired t))
+
+  pub wires-clean : (unwired t ≡ []) ↔ WiredInOrder (p .calls)
+  wires-clean = calls-wired [] refl (k .calls)
 
   pub lawful-clean : Lawful hs p → documentFaults hs t ≡ []
-  unfolding documentFaults unmade
-  lawful-clean l =
-      all-empty
-      (a-list (version-clean k)
-      (a-list (counts-clean l)
-      (a-list (graph-distinct .1 (l .header-distinct))
-      (a-list (all-declared (k .calls))
-      (a-list (all-bound (k .calls))
-      (a-list (all-matched (k .calls))
-      (a-list (assigned-once .1 (l .assigned-once))
-      (a-list (calls-wired [] refl (k .calls) .1 (l .wired))
-      (a-list (all-fed .1 (l .fed, l .external))
-      (a-list (all-made 24 (t .outputs) (k .outputs) .1 (l .made))
-      no-list))))))))))
+  lawful-clean l = parts-clean (l .parts) ∙ wires-clean .1 (l .wired)

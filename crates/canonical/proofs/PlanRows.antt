@@ -11,12 +11,12 @@ use Rattle.syntax.specs.Tree.{Header, Call}
 use Rattle.lists.specs.Names.{assigned, used}
 use Rattle.lists.specs.Reading.{vString}
 use Rattle.writing.specs.Plan.{PlanCall, spellings}
-use Rattle.writing.specs.Lawful.{times, Among, AllAmong, valNames, assigns, uses, allAssigns}
+use Rattle.writing.specs.Lawful.{times, Among, AllAmong, valNames, assigns, uses, allAssigns, WiredInOrder}
 use Rattle.orders.specs.Order.{needs}
 use Rattle.canonical.proofs.Shape.{CanonCall, CanonCalls, no-calls, a-call}
 use Rattle.canonical.proofs.Alike.{Alike, none-alike, more-alike}
 use Rattle.canonical.proofs.PlanNames.{within-among}
-use Rattle.canonical.proofs.LawfulRules.{call-assigns, call-uses, Wired}
+use Rattle.canonical.proofs.LawfulRules.{call-assigns, call-uses}
 use Rattle.canonical.proofs.Arrangement.{flatten-map}
 use Rattle.canonical.proofs.RowWires.{Rows, row-among, row-below, maker, maker-has, assignedRows, usedRows, RowsWired}
 
@@ -38,7 +38,7 @@ pub rows-assign : (cs : List PlanCall) → flatten (map assigns cs) ≡ allAssig
 unfolding allAssigns
 rows-assign cs = flatten-map assigns cs
 
-pub wired-rows : (cs : List PlanCall) → Wired [] cs → RowsWired (map assigns cs) (map uses cs)
+pub wired-rows : (cs : List PlanCall) → WiredInOrder cs → RowsWired (map assigns cs) (map uses cs)
 wired-rows cs h j w a =
     let l : j < length cs = omega (arith, row-below w (map uses cs) j a, length-map cs uses) in
     let before = take j cs in
@@ -49,7 +49,7 @@ wired-rows cs h j w a =
     let e = assigned-at before i ∙ ap assigns (getD-take j cs i noCall s) ∙ sym (assigned-at cs i) in
     (i, (s, subst (Among w) e b))
 
-pub rows-wired : (cs : List PlanCall) → RowsWired (map assigns cs) (map uses cs) → Wired [] cs
+pub rows-wired : (cs : List PlanCall) → RowsWired (map assigns cs) (map uses cs) → WiredInOrder cs
 rows-wired cs h before c after e w a =
     let at : (k : ℕ) → getD cs k noCall ≡ getD (before ++ (c ∷ after)) k noCall = λ k. ap (λ (l : List PlanCall). getD l k noCall) e in
     let u = used-at cs (length before) ∙ ap uses (at (length before) ∙ getD-append-seam before c after noCall) in

@@ -94,7 +94,8 @@ pub record LawfulCall (hs : List Header) (c : PlanCall) : Type 0 where
 
 -- ---- plans
 
-pub record Lawful (hs : List Header) (p : Plan) : Type 0 where
+-- what does not depend on the order of the calls
+pub record LawfulParts (hs : List Header) (p : Plan) : Type 0 where
   pub graph : IsName (p .graph)
   pub inputs : Names (p .inputs)
   pub outputs : Names (p .outputs)
@@ -109,10 +110,16 @@ pub record Lawful (hs : List Header) (p : Plan) : Type 0 where
   -- inputs and outputs have different names; no identifier is assigned twice
   pub header-distinct : Distinct (p .inputs ++ p .outputs)
   pub assigned-once : Distinct (allAssigns (p .calls))
-  -- each identifier that a call uses is assigned by a call before it
-  pub wired : (before : List PlanCall) (c : PlanCall) (after : List PlanCall) → p .calls ≡ before ++ (c ∷ after) → AllAmong (uses c) (allAssigns before)
   -- each input is assigned, and an identifier that a call assigns is an input exactly when the call's operation is `external`
   pub fed : AllAmong (p .inputs) (allAssigns (p .calls))
   pub external : (c : PlanCall) → List·Memᴰ c (p .calls) → (w : List ℕ) → Among w (assigns c) → Among w (p .inputs) ↔ (c .op ≡ ascii "external")
   -- each output is assigned
   pub made : AllAmong (p .outputs) (allAssigns (p .calls))
+
+-- each identifier that a call uses is assigned by a call before it
+abbrev pub WiredInOrder : List PlanCall → Type 0
+WiredInOrder cs = (before : List PlanCall) (c : PlanCall) (after : List PlanCall) → cs ≡ before ++ (c ∷ after) → AllAmong (uses c) (allAssigns before)
+
+pub record Lawful (hs : List Header) (p : Plan) : Type 0 where
+  pub parts : LawfulParts hs p
+  pub wired : WiredInOrder (p .calls)
