@@ -3,32 +3,50 @@
 -- leaves its plan lawful, and the arranged text is accepted with the arranged plan (`arranged-lawful`, `arranged-accepted`); its wires are those
 -- of before (`arranged-wires`). And where the arranged text is accepted, the order is in order (`accepted-in-order`).
 use mathlib.Core.Path.{_≡_, refl, sym, ap, ap₂, subst, subst₂, _∙_}
-use mathlib.Core.List.{List, [], _++_, map, flatten, List·Memᴰ, Memᴰ·map}
+use mathlib.Core.List.{List, [], _∷_, _++_, map, flatten, List·Memᴰ, List·Memᴰ·append-cases, Memᴰ·map, Memᴰ·of-map}
+use mathlib.Core.Logic.{_↔_, _⊎_, inl, inr}
+use mathlib.Core.Bool.{true}
+use mathlib.Core.Option.{Option, some}
+use mathlib.Core.Option.{none as nothing}
 use Prim.Native.Nat.{ℕ}
 use native.Mathlib.Omega.{arith}
 use lib.ListN.{length, getD, length-map}
 use Rattle.lexis.specs.Ascii.{ascii}
-use Rattle.syntax.specs.Tree.{Header, Call}
+use Rattle.lexis.specs.Answer.{answer}
+use Rattle.lexis.specs.Lexer.{Token}
+use Rattle.syntax.specs.Tree.{Header, Call, Document}
+use Rattle.lists.specs.Fault.{Fault, fault, faults, starts, first, IsFirst}
+use Rattle.lists.specs.Names.{assigned, used}
 use Rattle.lists.specs.Accepted.{AcceptedList}
+use Rattle.lists.proofs.First.{first-none, first-is}
+use Rattle.documents.specs.Code as Code
+use Rattle.documents.specs.Wiring.{strangers, unwiredAfter, unwired}
+use Rattle.documents.specs.Answer.{CheckRoom, checkServes, checkAnswer}
+use Rattle.documents.proofs.Theorems.{document-rules, check-refuses}
 use Rattle.writing.specs.Plan.{Plan}
-use Rattle.writing.specs.Pieces.{Piece}
+use Rattle.writing.specs.Pieces.{Piece, tokensAt}
 use Rattle.writing.specs.Layout.{documentPieces, canonical}
-use Rattle.writing.specs.Lawful.{times, Among, AllAmong, Distinct, assigns, uses, allAssigns, allUses, LawfulParts, WiredInOrder, Lawful}
+use Rattle.writing.specs.Lawful.{times, Among, Distinct, assigns, uses, allAssigns, allUses, LawfulParts, WiredInOrder, Lawful}
 use Rattle.orders.specs.Order.{needs}
 use Rattle.orders.specs.InOrder.{Permutation, InOrder}
 use Rattle.orders.proofs.Permutations.{permuted-below}
 use Rattle.canonical.specs.Demand.{HasPlan, Keeps}
 use Rattle.canonical.specs.Arranged.{arranged, arrangedPlan, callText, Rewired}
-use Rattle.canonical.proofs.Shape.{CanonCalls}
-use Rattle.canonical.proofs.Alike.{Alike, document-alike}
+use Rattle.writing.proofs.Fit.{PlanFits}
+use Rattle.canonical.proofs.Shape.{CanonDocument}
+use Rattle.canonical.proofs.CanonicalTokens.{lex-canonical}
+use Rattle.canonical.proofs.RereadDocument.{document-back}
 use Rattle.canonical.proofs.PlanNames.{times-append}
-use Rattle.canonical.proofs.Lawful.{lawful-plan, lawful-tree, lawful-accepted, canonical-tree}
+use Rattle.canonical.proofs.LawfulFits.{lawful-fits}
+use Rattle.canonical.proofs.LawfulRules.{parts-clean, wires-clean}
+use Rattle.canonical.proofs.Lawful.{lawful-plan, lawful-accepted, canonical-tree}
 use Rattle.canonical.proofs.Arrangement.{flatten-map, arranged-map, arranged-member, arranged-length, Additive, arranged-count, length-additive}
 use Rattle.canonical.proofs.Arrangement.{length-between}
 use Rattle.canonical.proofs.CallLines.{linePieces, headPieces, endPieces, pieces-by-calls, text-by-calls}
-use Rattle.canonical.proofs.RowWires.{Rows, among-member, maker, assignedRows, usedRows, rowNeeds, needs-rows, needed-at, RowsWired, ordered-wired}
+use Rattle.canonical.proofs.RowWires.{among-member, maker, assignedRows, usedRows, rowNeeds, needs-rows, needed-at, RowsWired, ordered-wired}
 use Rattle.canonical.proofs.RowWires.{wired-ordered, wires-kept}
-use Rattle.canonical.proofs.PlanRows.{rows-assign, wired-rows, rows-wired, canon-assigned, canon-used, alike-assigned, alike-used, needs-length}
+use Rattle.canonical.proofs.PlanRows.{rows-assign, wired-rows, rows-wired, canon-assigned, canon-used}
+use Rattle.canonical.proofs.OnePlan.{needs-plan, needs-counted, in-order-alike}
 
 -- ---- texts
 
@@ -129,30 +147,15 @@ module _ (list doc : List ℕ) (hs : List Header) (p : Plan) (ks : List ℕ) (l 
   abbrev cs : List Call
   cs = h .tree .calls
 
-  -- beside them those of the tree of the plan's canonical text: they assign the same, and use no more
-  alike : (ts : List Call) × (Alike cs ts × CanonCalls hs (p .calls) ts)
-  alike =
-      let x = lawful-tree list hs p l (lawful-plan list doc hs p l h) in
-      (x .0 .calls, (document-alike hs (h .tree) (x .0) (l .spelt) (h .planned) (x .1 .1 .0) .calls, x .1 .1 .0 .calls))
-
-  assigned-rows : assignedRows cs ≡ map assigns (p .calls)
-  assigned-rows = alike-assigned (alike .1 .0) ∙ canon-assigned (alike .1 .1)
-
-  used-rows : (k : ℕ) → AllAmong (getD (map uses (p .calls)) k []) (getD (usedRows cs) k [])
-  used-rows k w a =
-      alike-used (alike .1 .0) k w (subst (λ (rows : Rows). Among w (getD rows k [])) (sym (canon-used (alike .1 .1))) a)
-
   needed : (k : ℕ) (w : List ℕ) → Among w (getD (map uses (p .calls)) k []) → List·Memᴰ (maker (map assigns (p .calls)) w) (getD (needs cs) k [])
   needed k w a =
       let makes = map assigns (p .calls) in
-      let e : getD (needs cs) k [] ≡ map (maker makes) (getD (usedRows cs) k []) =
-      ap (λ (ns : List (List ℕ)). getD ns k []) (needs-rows cs ∙ ap (λ (rows : Rows). rowNeeds rows (usedRows cs)) assigned-rows)
-      ∙ needed-at makes (usedRows cs) k in
-      subst (List·Memᴰ (maker makes w)) (sym e) (Memᴰ·map (maker makes) (among-member w (getD (usedRows cs) k []) (used-rows k w a)))
+      let us = map uses (p .calls) in
+      needs-plan list doc hs p l h k (maker makes w) .1
+      (subst (List·Memᴰ (maker makes w)) (sym (needed-at makes us k)) (Memᴰ·map (maker makes) (among-member w (getD us k []) a)))
 
-  order-permutes : Permutation (length (p .calls)) ks
-  order-permutes =
-      subst (λ (n : ℕ). Permutation n ks) (needs-length cs ∙ ap (λ (rows : Rows). length rows) assigned-rows ∙ length-map (p .calls) assigns) (o .every)
+  pub order-permutes : Permutation (length (p .calls)) ks
+  order-permutes = subst (λ (n : ℕ). Permutation n ks) (needs-counted list doc hs p l h) (o .every)
 
   pub arranged-lawful : Lawful hs (arrangedPlan ks p)
   arranged-lawful =
@@ -206,3 +209,70 @@ module _ (list : List ℕ) (hs : List Header) (p : Plan) (ks : List ℕ) (l : Ac
   accepted-in-order =
       subst (λ (ns : List (List ℕ)). InOrder ns ks) (sym needs-are)
       (wired-ordered (map assigns (p .calls)) (map uses (p .calls)) ks (rows-permuted p ks o) (as-many-rows p ks o) distinct-rows kept-rows)
+
+-- ---- any document of the plan
+
+-- a fault of the wires has code 22
+unwired-fault : (known : List Token) (cs : List Call) (x : Fault) → List·Memᴰ x (unwiredAfter known cs) → x ≡ fault Code.unassignedUse (x .at)
+unfolding unwiredAfter
+unwired-fault known [] x m = elim m [ ]
+unwired-fault known (c ∷ cs) x m =
+    go (List·Memᴰ·append-cases (faults Code.unassignedUse (starts (strangers known (used c)))) m) (unwired-fault (known ++ assigned c) cs x)
+  where
+    go : List·Memᴰ x (faults Code.unassignedUse (starts (strangers known (used c)))) ⊎ List·Memᴰ x (unwiredAfter (known ++ assigned c) cs)
+        → (List·Memᴰ x (unwiredAfter (known ++ assigned c) cs) → x ≡ fault Code.unassignedUse (x .at)) → x ≡ fault Code.unassignedUse (x .at)
+    go (inl a) r =
+        let y = Memᴰ·of-map (fault Code.unassignedUse) (starts (strangers known (used c))) a in
+        sym (y .2) ∙ ap (fault Code.unassignedUse) (ap (λ (z : Fault). z .at) (y .2))
+    go (inr a) r = r a
+
+module _ (list doc : List ℕ) (hs : List Header) (p : Plan) (ks : List ℕ) (l : AcceptedList list hs) (h : HasPlan hs doc p) (k : Keeps hs p) where
+  -- an order is in order exactly where it is a permutation and the arranged text is accepted
+  pub arranged-exactly : InOrder (needs (h .tree .calls)) ks
+      ↔ (Permutation (length (p .calls)) ks × HasPlan hs (canonical hs (arrangedPlan ks p)) (arrangedPlan ks p))
+  arranged-exactly = (
+    λ (o : InOrder (needs (h .tree .calls)) ks). (order-permutes list doc hs p ks l h o, arranged-accepted list doc hs p ks l h o k),
+    λ (x : Permutation (length (p .calls)) ks × HasPlan hs (canonical hs (arrangedPlan ks p)) (arrangedPlan ks p)).
+        let g = lawful-accepted list hs p l k (lawful-plan list doc hs p l h) in
+        in-order-alike list (canonical hs p) doc hs p l g h ks (accepted-in-order list hs p ks l (x .0) g (x .1)),
+  )
+
+  -- under a permutation that is not in order, check refuses the arranged text: an identifier is used before it is assigned
+  pub arranged-refused : Permutation (length (p .calls)) ks → (InOrder (needs (h .tree .calls)) ks → ⊥) → (r : CheckRoom) → checkServes r ≡ true
+      → (place : ℕ) × (checkAnswer list (canonical hs (arrangedPlan ks p)) r ≡ answer Code.unassignedUse 2 place 0)
+  arranged-refused o n r s = go (first (unwired tree)) refl
+    where
+      q : Plan
+      q = arrangedPlan ks p
+
+      parts : LawfulParts hs q
+      parts = arranged-parts p ks o (lawful-plan list doc hs p l h .parts)
+
+      kept : Keeps hs q
+      kept = arranged-keeps hs p ks o k
+
+      fits : PlanFits hs q
+      fits = lawful-fits list hs q l parts
+
+      tree : Document
+      tree = document-back hs q fits .0
+
+      shape : CanonDocument hs q tree
+      shape = document-back hs q fits .1 .1
+
+      go : (f : Option Fault) → first (unwired tree) ≡ f
+          → (place : ℕ) × (checkAnswer list (canonical hs q) r ≡ answer Code.unassignedUse 2 place 0)
+      go nothing e =
+          let w = wires-clean shape .0 (first-none (unwired tree) e) in
+          let a = lawful-accepted list hs q l kept (record { parts = parts; wired = w }) in
+          absurd (n (arranged-exactly .1 (o, a)))
+      go (some x) e =
+          let c = parts-clean shape parts in
+          let f = subst (IsFirst x) (sym c) (first-is (unwired tree) x e) in
+          let t = document-rules list (canonical hs q) hs l (tokensAt 0 (documentPieces hs q)) tree x (lex-canonical hs q fits (kept .tokens))
+          (document-back hs q fits .1 .0) f in
+          let y = unwired-fault [] (tree .calls) x (first-is (unwired tree) x e .member) in (
+            x .at,
+            check-refuses list (canonical hs q) r _ s (l .short) (kept .bytes) t
+                ∙ ap (λ (z : Fault). answer (z .code) 2 (x .at) (z .detail)) y,
+          )

@@ -33,11 +33,13 @@ pub mod PlanNames
 pub mod LawfulFits
 pub mod LawfulRules
 pub mod Lawful
--- Calls in another order: lists arranged; the lines of a text; rows of names and their wires; those of plans; the theorems.
+-- Calls in another order: lists arranged; the lines of a text; rows of names and their wires; those of plans;
+-- documents of one plan; the theorems.
 pub mod Arrangement
 pub mod CallLines
 pub mod RowWires
 pub mod PlanRows
+pub mod OnePlan
 pub mod Arranged
 -- canon, and what the program shows.
 pub mod CanonStages

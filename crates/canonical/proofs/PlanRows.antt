@@ -12,7 +12,6 @@ use Rattle.lists.specs.Names.{assigned, used}
 use Rattle.lists.specs.Reading.{vString}
 use Rattle.writing.specs.Plan.{PlanCall, spellings}
 use Rattle.writing.specs.Lawful.{times, Among, AllAmong, valNames, assigns, uses, allAssigns, WiredInOrder}
-use Rattle.orders.specs.Order.{needs}
 use Rattle.canonical.proofs.Shape.{CanonCall, CanonCalls, no-calls, a-call}
 use Rattle.canonical.proofs.Alike.{Alike, none-alike, more-alike}
 use Rattle.canonical.proofs.PlanNames.{within-among}
@@ -83,7 +82,3 @@ unfolding times
 alike-used none-alike k w b = absurd (not-suc-le-zero b)
 alike-used (more-alike {c} {t} a l) zero w b = within-among (spellings (used t)) (spellings (used c)) (a .uses) w b
 alike-used (more-alike a l) (suc k) w b = alike-used l k w b
-
-pub needs-length : (cs : List Call) → length (needs cs) ≡ length (assignedRows cs)
-unfolding needs
-needs-length cs = length-map cs _ ∙ sym (length-map cs (λ (c : Call). spellings (assigned c)))

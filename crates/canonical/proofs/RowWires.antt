@@ -38,7 +38,7 @@ among-member w (v ∷ ws) a = go (sameBytes v w) refl a (among-member w ws)
     go true e a r = List·Memᴰ·head (sym (same-is v w e))
     go false e a r = List·Memᴰ·tail (r a)
 
-member-among : (w : List ℕ) (ws : List (List ℕ)) → List·Memᴰ w ws → Among w ws
+pub member-among : (w : List ℕ) (ws : List (List ℕ)) → List·Memᴰ w ws → Among w ws
 member-among w [] m = elim m [ ]
 member-among w (v ∷ ws) m = go (List·Memᴰ·cases-cons m) (member-among w ws)
   where

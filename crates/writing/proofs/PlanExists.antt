@@ -36,7 +36,7 @@ unfolding flatten
 row-none [] h = tt
 row-none (xs ∷ xss) h = let e = append-eq-nil-iff {p = xs} {q = flatten xss} .0 h in (e .0, row-none xss (e .1))
 
-flat-none : {A : Type 0} (f : A → List Fault) (xs : List A) → flatMap f xs ≡ [] → Each (λ x. f x ≡ []) xs
+pub flat-none : {A : Type 0} (f : A → List Fault) (xs : List A) → flatMap f xs ≡ [] → Each (λ x. f x ≡ []) xs
 unfolding flatMap
 flat-none f [] h = tt
 flat-none f (x ∷ xs) h = let e = append-eq-nil-iff {p = f x} {q = flatMap f xs} .0 h in (e .0, flat-none f xs (e .1))
