@@ -1,16 +1,17 @@
 -- The three demands, clause by clause and in their order, for the five operations: statements, each proved in a file that is named at its
 -- `use`. What the words mean stands in specs/: answers and lent words afterwards in `Answer` of each crate, acceptance in `Accepted`
 -- of `lists` and `documents`, the first fault in `Fault` of `lists`, the table of codes in `CodeTable`, plans and canonical texts in `Plan`
--- and `Layout`. `docs/DEMANDS.md` reads this page aloud.
+-- and `Layout`, lawful plans in `Lawful`, orders in `Order` and `InOrder`. `docs/DEMANDS.md` reads this page aloud.
 use mathlib.Core.Path.{_≡_}
 use mathlib.Core.Bool.{Bool, true, false, cond}
-use mathlib.Core.List.{List, [], _∷_, _++_}
+use mathlib.Core.List.{List, [], _∷_, _++_, map, flatten}
 use mathlib.Core.Logic.{_↔_}
 use Prim.Native.Nat.{ℕ, suc, _*_, _≤_, _<_}
 use lib.ListN.{length, getD, replicate}
 use lib.Seq.{sets}
 use Rattle.lexis.specs.Sizes.{maxText, maxTokens, maxBrackets, tokenWords, tableWords, workWords, maxExtent}
 use Rattle.lexis.specs.Code as Code
+use Rattle.lexis.specs.Ascii.{ascii}
 use Rattle.lexis.specs.Kind as Kind
 use Rattle.lexis.specs.Number.{valueFrom, signed}
 use Rattle.lexis.specs.Lexer.{Token, accepted, refused, lex, Placed, Longest, Kinded}
@@ -30,6 +31,7 @@ use Rattle.lists.specs.ListRules.{listFaults}
 use Rattle.lists.specs.Answer.{declarationsAnswer, workAfter}
 use Rattle.lists.specs.Accepted.{AcceptedList}
 use Rattle.lists.proofs.Theorems as Lists
+use Rattle.documents.specs.Code as Rules
 use Rattle.documents.specs.DocumentRules.{documentFaults}
 use Rattle.documents.specs.Tables.{callTable, wireTable, assigner}
 use Rattle.documents.specs.Wired.{AssignedBy}
@@ -38,17 +40,22 @@ use Rattle.documents.specs.Accepted.{AcceptedDocument}
 use Rattle.documents.proofs.Theorems as Documents
 use Rattle.orders.specs.Order.{needs}
 use Rattle.orders.specs.Answer.{OrderRoom, orderRoom, orderServes, orderAnswer}
-use Rattle.orders.specs.InOrder.{InOrder, FirstAtFault}
+use Rattle.orders.specs.InOrder.{Permutation, InOrder, FirstAtFault}
 use Rattle.orders.proofs.Theorems as Orders
 use Rattle.canonical.specs.Code as Writing
 use Rattle.writing.specs.Plan.{Plan}
 use Rattle.writing.specs.Layout.{documentPieces, canonical}
+use Rattle.writing.specs.Lawful.{Lawful}
 use Rattle.canonical.specs.Answer.{canonServes}
-use Rattle.canonical.specs.Demand.{HasPlan, Keeps, Lent, roomOf, Serves, numbers, output, bytesWritten, IsGuard}
+use Rattle.canonical.specs.Demand.{HasPlan, ReadsAs, Keeps, Lent, roomOf, Serves, numbers, output, bytesWritten, IsGuard}
+use Rattle.canonical.specs.Arranged.{arranged, arrangedPlan, callText, Rewired}
 use Rattle.canonical.specs.CodeTable.{InTable, TokenCount, OperationCount, CallCount, CanonicalLength, NoText, NoOrder, TheOrder}
 use Rattle.canonical.proofs.InTables as InTables
 use Rattle.canonical.proofs.Theorems as Canonical
 use Rattle.canonical.proofs.Answers as Answers
+use Rattle.canonical.proofs.Lawful as Laws
+use Rattle.canonical.proofs.OnePlan as OnePlan
+use Rattle.canonical.proofs.Arranged as Arranged
 
 -- ==== Demand 1. Whatever bytes and buffers are lent, every entry point ends, touches nothing beyond them, and answers with four numbers
 -- from the table. That it ends and stays inside what is lent is what a proved contract says: those of `tokens`, `declarations`,
@@ -310,9 +317,9 @@ order-refuses-as-check = Orders.order-refuses-as-check
 
 module _ (list doc : List ℕ) (l : OrderRoom) (ks : List ℕ) (hs : List Header) (d : Document) (r : orderServes l ≡ true) (a : AcceptedList list hs)
     (b : AcceptedDocument hs doc d) where
-  -- an order in order is answered 0, 0, 0 and the number of calls
-  pub order-accepts : InOrder (needs (d .calls)) ks → orderAnswer list doc l ks ≡ answer Code.accepted 0 0 (length (d .calls))
-  order-accepts = Orders.order-accepts list doc l ks hs d r a b
+  -- it is answered 0, 0, 0 and the number of calls exactly when every call stands once in it, and each use after its assigning call
+  pub order-exactly : (orderAnswer list doc l ks ≡ answer Code.accepted 0 0 (length (d .calls))) ↔ InOrder (needs (d .calls)) ks
+  order-exactly = Orders.order-exactly list doc l ks hs d r a b
 
   -- any other is answered the first place at fault, with the smallest code there; and what is so answered is that place
   pub order-fault : (p c : ℕ) → 0 < c → (orderAnswer list doc l ks ≡ answer c 0 p 0) ↔ FirstAtFault (needs (d .calls)) ks p c
@@ -359,3 +366,45 @@ module _ (list : List ℕ) (hs : List Header) (fixed : AcceptedList list hs) whe
   pub again-written : (doc : List ℕ) (p : Plan) (h : HasPlan hs doc p) (k : Keeps hs p) (l m : Lent) → Serves l (canonical hs p) → Serves m (canonical hs p)
       → (numbers list (canonical hs p) m ≡ numbers list doc l) × (bytesWritten list (canonical hs p) m ≡ bytesWritten list doc l)
   again-written = Canonical.again-written list hs fixed
+
+  -- ==== The order of calls. For an accepted order, and a canonical text within the limits: the canonical text with its calls so arranged is
+  -- accepted under the same list, its plan is the document's plan with its calls so arranged, and each use still names the same identifier.
+
+  -- which plans are lawful, said of plans alone: exactly those whose canonical text, limits aside, is accepted and has that plan
+  pub lawful-exactly : (p : Plan) → Lawful hs p ↔ ReadsAs hs (canonical hs p) p
+  lawful-exactly p = Laws.lawful-exactly list hs p fixed
+
+  -- the plan of an accepted document is lawful, and within the limits the canonical text of a lawful plan is accepted
+  pub lawful-plan : (doc : List ℕ) (p : Plan) → HasPlan hs doc p → Lawful hs p
+  lawful-plan doc p = Laws.lawful-plan list doc hs p fixed
+
+  pub lawful-accepted : (p : Plan) → Keeps hs p → Lawful hs p → HasPlan hs (canonical hs p) p
+  lawful-accepted p = Laws.lawful-accepted list hs p fixed
+
+  -- documents of one plan get the same four numbers for every order
+  pub order-alike : (doc₁ doc₂ : List ℕ) (p : Plan) → HasPlan hs doc₁ p → HasPlan hs doc₂ p → (ks : List ℕ) (r s : OrderRoom)
+      → orderServes r ≡ true → orderServes s ≡ true → orderAnswer list doc₁ r ks ≡ orderAnswer list doc₂ s ks
+  order-alike doc₁ doc₂ p h g ks = OnePlan.order-alike list doc₁ doc₂ hs p fixed h g ks
+
+  -- the canonical text is a head, a line for each call, and a closing brace; that of the arranged plan has the same head and the same lines, arranged
+  pub text-arranged : (p : Plan)
+      → (head : List ℕ)
+      × ((canonical hs p ≡ head ++ (flatten (map (callText hs) (p .calls)) ++ ascii "}\n"))
+      × ((ks : List ℕ) → canonical hs (arrangedPlan ks p) ≡ head ++ (flatten (arranged ks (map (callText hs) (p .calls))) ++ ascii "}\n")))
+  text-arranged p = Arranged.text-arranged hs p
+
+  module _ (doc : List ℕ) (p : Plan) (h : HasPlan hs doc p) (k : Keeps hs p) (ks : List ℕ) where
+    -- an order is in order exactly when it has every call once and the text so arranged is accepted, with the plan so arranged
+    pub arranged-exactly : InOrder (needs (h .tree .calls)) ks
+        ↔ (Permutation (length (p .calls)) ks × HasPlan hs (canonical hs (arrangedPlan ks p)) (arrangedPlan ks p))
+    arranged-exactly = Arranged.arranged-exactly list doc hs p ks fixed h k
+
+    -- and otherwise, if it has every call once, the text so arranged is refused for a use before its assignment
+    pub arranged-refused : Permutation (length (p .calls)) ks → (InOrder (needs (h .tree .calls)) ks → ⊥) → (r : CheckRoom) → checkServes r ≡ true
+        → (place : ℕ) × (checkAnswer list (canonical hs (arrangedPlan ks p)) r ≡ answer Rules.unassignedUse 2 place 0)
+    arranged-refused = Arranged.arranged-refused list doc hs p ks fixed h k
+
+  -- each use still names the same assigned identifier: its wire leads to the call that assigns it, at its new number
+  pub arranged-wires : (p : Plan) (ks : List ℕ) → Permutation (length (p .calls)) ks → (g : HasPlan hs (canonical hs p) p)
+      (g' : HasPlan hs (canonical hs (arrangedPlan ks p)) (arrangedPlan ks p)) → Rewired ks (g .tree .calls) (g' .tree .calls)
+  arranged-wires p ks o g g' = Arranged.arranged-wires list hs p ks fixed o g g'

@@ -60,7 +60,21 @@ module _ (ns : List (List ℕ)) (ks : List ℕ) where
   length-right h =
       ap (λ (b : Bool). answerOf (length ns) (unless b (fault Code.wrongLength 0) ++ faultsFrom ns [] 0 ks)) (eq-eqb (length ks) (length ns) h)
 
--- the same by the needs that records have
+-- no code is below 41
+pub order-faults-codes : (ns : List (List ℕ)) (ks : List ℕ) (x : Fault) → List·Memᴰ x (orderFaults ns ks) → 41 ≤ x .code
+unfolding orderFaults wrongLength
+order-faults-codes ns ks x m = go (eqb (length ks) (length ns)) (List·Memᴰ·append-cases (unless (eqb (length ks) (length ns)) (fault Code.wrongLength 0)) m)
+  where
+    go : (b : Bool) → List·Memᴰ x (unless b (fault Code.wrongLength 0)) ⊎ List·Memᴰ x (faultsFrom ns [] 0 ks) → 41 ≤ x .code
+    go b (inr m) = let l = fault-codes ns [] 0 ks x m in omega (arith, l)
+    go true (inl m) = elim m [ ]
+    go false (inl m) = one (List·Memᴰ·cases-cons m)
+      where
+        one : (x ≡ fault Code.wrongLength 0) ⊎ List·Memᴰ x [] → 41 ≤ x .code
+        one (inl e) = let z = ap (λ (y : Fault). y .code) e in omega (arith, z)
+        one (inr m) = elim m [ ]
+
+-- the length, by the needs that records have
 module _ (records : List ℕ) (n : ℕ) (ks : List ℕ) where
   pub rows-wrong : {r : Answer} → (length ks ≡ n → ⊥) → r ≡ answer Code.wrongLength 0 0 0 → r ≡ orderedBy (rows records n) ks
   rows-wrong h e = e ∙ sym (length-wrong (rows records n) ks (λ q. h (q ∙ rows-length records n)))
@@ -99,19 +113,6 @@ module _ (list doc ks : List ℕ) where
   order-stopped e = sym (rw e)
 
   -- a refusal has another code than those of the guards
-  order-faults-codes : (ns : List (List ℕ)) (x : Fault) → List·Memᴰ x (orderFaults ns ks) → 41 ≤ x .code
-  unfolding orderFaults wrongLength
-  order-faults-codes ns x m = go (eqb (length ks) (length ns)) (List·Memᴰ·append-cases (unless (eqb (length ks) (length ns)) (fault Code.wrongLength 0)) m)
-    where
-      go : (b : Bool) → List·Memᴰ x (unless b (fault Code.wrongLength 0)) ⊎ List·Memᴰ x (faultsFrom ns [] 0 ks) → 41 ≤ x .code
-      go b (inr m) = let l = fault-codes ns [] 0 ks x m in omega (arith, l)
-      go true (inl m) = elim m [ ]
-      go false (inl m) = one (List·Memᴰ·cases-cons m)
-        where
-          one : (x ≡ fault Code.wrongLength 0) ⊎ List·Memᴰ x [] → 41 ≤ x .code
-          one (inl e) = let z = ap (λ (y : Fault). y .code) e in omega (arith, z)
-          one (inr m) = elim m [ ]
-
   pub order-codes : (r : Answer) → orderStages list doc ks ≡ stop r → 3 ≤ r .code
   unfolding orderStages orderStage
   order-codes r h = go (bothStages list doc) refl h
@@ -120,7 +121,7 @@ module _ (list doc ks : List ℕ) where
       inner k nothing q e = let z : _≡_ {A = ℕ} 0 1 = cc in absurd (omega arith)
       inner k (some x) q e =
           let ns = needs (k .document .calls) in
-          let l = order-faults-codes ns x (first-is (orderFaults ns ks) x q .member) in
+          let l = order-faults-codes ns ks x (first-is (orderFaults ns ks) x q .member) in
           let z : x .code ≡ r .code = cc in
           omega (arith, l, z)
 

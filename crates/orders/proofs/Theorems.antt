@@ -18,7 +18,7 @@ use Rattle.syntax.specs.Tree.{Header, Document}
 use Rattle.lists.specs.Fault.{Fault, fault, first, IsFirst}
 use Rattle.lists.specs.Answer.{Stage, pass, stop, andThen, guard, guarded, rulesStage, stageAnswer}
 use Rattle.lists.specs.Accepted.{AcceptedList}
-use Rattle.lists.proofs.First.{first-none}
+use Rattle.lists.proofs.First.{first-none, first-is}
 use Rattle.lists.proofs.Theorems.{first-fault}
 use Rattle.documents.specs.Answer.{bothStages, Checked, CheckRoom, checkServes, checked, callCount, checkAnswer}
 use Rattle.documents.specs.Accepted.{AcceptedDocument}
@@ -27,7 +27,7 @@ use Rattle.orders.specs.Order.{needs, orderFaults}
 use Rattle.orders.specs.Answer.{orderStage, orderStages, OrderRoom, orderServes, judged, orderAnswer}
 use Rattle.orders.specs.InOrder.{InOrder, FirstAtFault}
 use Rattle.orders.proofs.InOrder.{first-place, no-fault}
-use Rattle.orders.proofs.Judged.{order-codes}
+use Rattle.orders.proofs.Judged.{order-faults-codes, order-codes}
 
 module _ (list doc : List ℕ) (l : OrderRoom) (ks : List ℕ) where
   -- ---- guards
@@ -72,10 +72,20 @@ module _ (list doc : List ℕ) (l : OrderRoom) (ks : List ℕ) where
         ∙ ap (λ (s : Stage Checked). andThen s (λ k. orderStage k ks)) (both-pass list doc hs a d b)
         ∙ ap (rulesStage 0 (record { headers = hs; document = d })) e)
 
-    -- an order in which every call stands once, and each use after its assigning call, is answered 0, 0, 0 and the number of calls
-    pub order-accepts : InOrder (needs (d .calls)) ks → orderAnswer list doc l ks ≡ answer Code.accepted 0 0 (length (d .calls))
+    -- an order is answered 0, 0, 0 and the number of calls exactly when every call stands once in it, and each use after its assigning call
+    pub order-exactly : (orderAnswer list doc l ks ≡ answer Code.accepted 0 0 (length (d .calls))) ↔ InOrder (needs (d .calls)) ks
     unfolding first
-    order-accepts o = answered nothing (ap first (no-fault (needs (d .calls)) ks .1 o))
+    order-exactly = (to, λ (o : InOrder (needs (d .calls)) ks). answered nothing (ap first (no-fault (needs (d .calls)) ks .1 o)))
+      where
+        to : orderAnswer list doc l ks ≡ answer Code.accepted 0 0 (length (d .calls)) → InOrder (needs (d .calls)) ks
+        to e = go (first (orderFaults (needs (d .calls)) ks)) refl
+          where
+            go : (o : Option Fault) → first (orderFaults (needs (d .calls)) ks) ≡ o → InOrder (needs (d .calls)) ks
+            go nothing q = no-fault (needs (d .calls)) ks .0 (first-none (orderFaults (needs (d .calls)) ks) q)
+            go (some x) q =
+                let c = order-faults-codes (needs (d .calls)) ks x (first-is (orderFaults (needs (d .calls)) ks) x q .member) in
+                let z : x .code ≡ Code.accepted = ap (λ (w : Answer). w .code) (sym (answered (some x) q) ∙ e) in
+                absurd (omega (arith, c, z))
 
     -- any other with the first place at fault, and the smallest code there; and so answered is no other order
     pub order-fault : (p c : ℕ) → 0 < c → (orderAnswer list doc l ks ≡ answer c 0 p 0) ↔ FirstAtFault (needs (d .calls)) ks p c
