@@ -19,7 +19,7 @@ use Rattle.lists.specs.Reading.{Val, isSome, allTensor}
 use Rattle.lists.specs.ListRules.{paramNames}
 use Rattle.lists.proofs.Faultless.{no-faults, no-starts}
 use Rattle.documents.specs.Code as Code
-use Rattle.documents.specs.Binding.{Slot, leading, labels, byPlace, later, byName, orElse, slotsFrom, slots, taken, takesPlace, misplacedFrom, misplaced, misnamed}
+use Rattle.documents.specs.Binding.{leading, labels, byPlace, later, byName, orElse, slotsFrom, slots, taken, misplacedFrom, misplaced, misnamed}
 use Rattle.documents.specs.Wiring.{strangers}
 use Rattle.documents.proofs.Lookups.{among-append}
 use Rattle.documents.proofs.Sought.{same-is, same-self, same-sym}
@@ -232,7 +232,9 @@ unfolding misnamed
 uses-within ps xs m n h g =
     let a = strangers (paramNames ps) (labels xs) in
     let b = those (isAmong (taken ps (leading xs))) (labels xs) in
-    let e = row-none (a ∷ b ∷ repeats (labels xs) ∷ []) (no-starts (flatten (a ∷ b ∷ repeats (labels xs) ∷ [])) (no-faults Code.misnamed (starts (flatten (a ∷ b ∷ repeats (labels xs) ∷ []))) n)) in
-    let l = both-hold (isAmong (paramNames ps)) (isAmong (taken ps (leading xs))) (labels xs) (none-pass (λ t. not (isAmong (paramNames ps) t)) (labels xs) (e .0))
-    (none-pass (isAmong (taken ps (leading xs))) (labels xs) (e .1 .0)) in
+    let r = a ∷ b ∷ repeats (labels xs) ∷ [] in
+    let e = row-none r (no-starts (flatten r) (no-faults Code.misnamed (starts (flatten r)) n)) in
+    let known = none-pass (λ t. not (isAmong (paramNames ps) t)) (labels xs) (e .0) in
+    let free = none-pass (isAmong (taken ps (leading xs))) (labels xs) (e .1 .0) in
+    let l = both-hold (isAmong (paramNames ps)) (isAmong (taken ps (leading xs))) (labels xs) known free in
     omega (arith, all-bound g ps xs m l (e .1 .1 .0), slots-size g ps (leading xs) xs h)

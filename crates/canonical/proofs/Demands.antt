@@ -72,7 +72,8 @@ declarations-in-table = InTables.declarations-in
 pub check-in-table : (list doc : List ℕ) (l : CheckRoom) → InTable (list ∷ doc ∷ []) (CallCount list doc) NoText NoOrder (checkAnswer list doc l)
 check-in-table = InTables.check-in
 
-pub canon-in-table : (list doc : List ℕ) (l : Lent) → InTable (list ∷ doc ∷ []) (CanonicalLength list doc) (CanonicalLength list doc) NoOrder (numbers list doc l)
+pub canon-in-table : (list doc : List ℕ) (l : Lent)
+    → InTable (list ∷ doc ∷ []) (CanonicalLength list doc) (CanonicalLength list doc) NoOrder (numbers list doc l)
 canon-in-table = InTables.canon-in
 
 pub order-in-table : (list doc : List ℕ) (l : OrderRoom) (ks : List ℕ)

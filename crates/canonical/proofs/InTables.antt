@@ -46,7 +46,8 @@ use Rattle.writing.specs.Layout.{documentPieces, canonical}
 use Rattle.canonical.specs.Answer.{layoutOf, writingStages, textStages, canonServes, written, canonAnswer}
 use Rattle.canonical.specs.Demand.{HasPlan, Lent, roomOf, numbers}
 use Rattle.canonical.specs.CodeTable as T
-use Rattle.canonical.specs.CodeTable.{TextOf, first-text, second-text, InTable, TokenCount, OperationCount, CallCount, CanonicalLength, NoText, NoOrder, TheOrder}
+use Rattle.canonical.specs.CodeTable.{TextOf, first-text, second-text, InTable, TokenCount, OperationCount, CallCount, CanonicalLength, NoText}
+use Rattle.canonical.specs.CodeTable.{NoOrder, TheOrder}
 use Rattle.writing.proofs.PlanExists.{plan-exists}
 use Rattle.canonical.proofs.Theorems.{layout-is}
 
@@ -180,7 +181,8 @@ under Count Length Order list doc s n h serves = go serves (leb (length list) ma
     go true true true e f = h (leb-true (length list) maxText e) (leb-true (length doc) maxText f)
 
 -- a refusal by the stages of both texts
-both-refused : (Count Length : ℕ → Type 0) (Order : List ℕ → Type 0) (list doc : List ℕ) (r : Answer) → bothStages list doc ≡ stop r → InTable (list ∷ doc ∷ []) Count Length Order r
+both-refused : (Count Length : ℕ → Type 0) (Order : List ℕ → Type 0) (list doc : List ℕ) (r : Answer) → bothStages list doc ≡ stop r
+    → InTable (list ∷ doc ∷ []) Count Length Order r
 both-refused Count Length Order list doc r e = go (both-refusal list doc r e)
   where
     go : Refusal IsList ListCode 1 list r ⊎ Refusal IsDocument DocumentCode 2 doc r → InTable (list ∷ doc ∷ []) Count Length Order r
@@ -212,7 +214,8 @@ declarations-in list work =
 
 pub check-in : (list doc : List ℕ) (l : CheckRoom) → InTable (list ∷ doc ∷ []) (CallCount list doc) NoText NoOrder (checkAnswer list doc l)
 unfolding checkAnswer checked
-check-in list doc l = under (CallCount list doc) NoText NoOrder list doc (bothStages list doc) callCount (λ a b. by a b (bothStages list doc) refl) (checkServes l)
+check-in list doc l =
+    under (CallCount list doc) NoText NoOrder list doc (bothStages list doc) callCount (λ a b. by a b (bothStages list doc) refl) (checkServes l)
   where
     by : length list ≤ maxText → length doc ≤ maxText → (s : Stage Checked) → bothStages list doc ≡ s
         → InTable (list ∷ doc ∷ []) (CallCount list doc) NoText NoOrder (stageAnswer s callCount)

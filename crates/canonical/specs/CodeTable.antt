@@ -81,7 +81,8 @@ pub data InTable (texts : List (List ℕ)) (Count Length : ℕ → Type 0) (Orde
   -- 18: a bound argument does not fit
   misfit : {p : ℕ} {text : List ℕ} → TextOf texts 2 text → AToken text p → InTable texts Count Length Order (answer Documents.misfit 2 p 0)
   -- 19: a parameter without default is not bound; the detail is its index, from 0
-  unbound : {p k : ℕ} {text : List ℕ} → TextOf texts 2 text → AToken text p → k < maxParameters → InTable texts Count Length Order (answer Documents.unbound 2 p k)
+  unbound : {p k : ℕ} {text : List ℕ} → TextOf texts 2 text → AToken text p → k < maxParameters
+      → InTable texts Count Length Order (answer Documents.unbound 2 p k)
   -- 20: a left side does not match the results
   unmatched : {p : ℕ} {text : List ℕ} → TextOf texts 2 text → AToken text p → InTable texts Count Length Order (answer Documents.unmatched 2 p 0)
   -- 21: an identifier is assigned again

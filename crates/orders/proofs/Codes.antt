@@ -72,7 +72,8 @@ module _ (records : List ℕ) (n : ℕ) (marks : List ℕ) (k : ℕ) where
 
 -- the code of the number k after the numbers js
 abbrev codeAfter : List (List ℕ) → List ℕ → ℕ → ℕ
-codeAfter ns js k = cond (ltb k (length ns)) (cond (stands js k) Code.repeatedCall (cond (allStand js (getD ns k [])) Bytes.accepted Code.earlyUse)) Code.outOfRange
+codeAfter ns js k =
+    cond (ltb k (length ns)) (cond (stands js k) Code.repeatedCall (cond (allStand js (getD ns k [])) Bytes.accepted Code.earlyUse)) Code.outOfRange
 
 all-agree : (marks js ws : List ℕ) → ((m : ℕ) → List·Memᴰ m ws → isMarked marks m ≡ stands js m) → allMarked marks ws ≡ allStand js ws
 unfolding allMarked allStand

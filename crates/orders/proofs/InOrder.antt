@@ -31,16 +31,19 @@ stands-earlier (k ∷ ks) (suc p) m e = go (eqb k m) refl e (stands-earlier ks p
     go true q e r = record { place = 0; before = omega arith; stands = eqb-true k m q }
     go false q e r = let x = r e in record { place = suc (x .place); before = omega (arith, x .before); stands = x .stands }
 
-earlier-stands : (ks : List ℕ) (p m q : ℕ) → q < p → q < length ks → getD ks q 0 ≡ m → stands (take p ks) m ≡ true
+place-stands : (ks : List ℕ) (p m q : ℕ) → q < p → q < length ks → getD ks q 0 ≡ m → stands (take p ks) m ≡ true
 unfolding stands
-earlier-stands ks zero m q l h e = absurd (not-suc-le-zero l)
-earlier-stands [] (suc p) m q l h e = absurd (not-suc-le-zero h)
-earlier-stands (k ∷ ks) (suc p) m zero l h e = rw (eq-eqb k m e)
-earlier-stands (k ∷ ks) (suc p) m (suc q) l h e = go (eqb k m) (earlier-stands ks p m q (le-of-suc-le-suc l) (le-of-suc-le-suc h) e)
+place-stands ks zero m q l h e = absurd (not-suc-le-zero l)
+place-stands [] (suc p) m q l h e = absurd (not-suc-le-zero h)
+place-stands (k ∷ ks) (suc p) m zero l h e = rw (eq-eqb k m e)
+place-stands (k ∷ ks) (suc p) m (suc q) l h e = go (eqb k m) (place-stands ks p m q (le-of-suc-le-suc l) (le-of-suc-le-suc h) e)
   where
     go : (b : Bool) → stands (take p ks) m ≡ true → (b || stands (take p ks) m) ≡ true
     go true r = refl
     go false r = r
+
+earlier-stands : (ks : List ℕ) (p m : ℕ) → p < length ks → Earlier ks p m → stands (take p ks) m ≡ true
+earlier-stands ks p m h y = place-stands ks p m (y .place) (y .before) (omega (arith, h, y .before)) (y .stands)
 
 -- those that do not all stand before lack one
 lacks : (js ws : List ℕ) → allStand js ws ≡ false → (m : ℕ) × (List·Memᴰ m ws × (stands js m ≡ false))
@@ -107,8 +110,7 @@ module _ (ns : List (List ℕ)) (ks : List ℕ) where
       rw e (a, refl)
   at-fault p x h (of-use e f) =
       let l = lacks (take p ks) (getD ns (getD ks p 0) []) f in
-      let a : AtFault ns ks p Code.earlyUse =
-      early-use h (l .1 .0) (λ y. absurd (true≢false (sym (earlier-stands ks p (l .0) (y .place) (y .before) (omega (arith, h, y .before)) (y .stands)) ∙ l .1 .1))) in
+      let a : AtFault ns ks p Code.earlyUse = early-use h (l .1 .0) (λ y. true≢false (sym (earlier-stands ks p (l .0) h y) ∙ l .1 .1)) in
       rw e (a, refl)
 
   -- ---- all places
@@ -188,8 +190,7 @@ module _ (ns : List (List ℕ)) (ks : List ℕ) where
   is-fault (wrong-length h) = Memᴰ·append-left (faultsFrom ns [] 0 ks) (is-unless (eqb (length ks) (length ns)) refl (ne-eqb (length ks) (length ns) h))
   is-fault (out-of-range {p} h l) = is-place p (fault Code.outOfRange p) h (of-range refl (le-ltb (getD ks p 0) (length ns) l))
   is-fault (repeated-call {p} h e) =
-      is-place p (fault Code.repeatedCall p) h
-      (of-repeat refl (earlier-stands ks p (getD ks p 0) (e .place) (e .before) (omega (arith, h, e .before)) (e .stands)))
+      is-place p (fault Code.repeatedCall p) h (of-repeat refl (earlier-stands ks p (getD ks p 0) h e))
   is-fault (early-use {p} {m} h n e) =
       is-place p (fault Code.earlyUse p) h (of-use refl (lacking (take p ks) (getD ns (getD ks p 0) []) m n (go (stands (take p ks) m) refl)))
     where
@@ -259,8 +260,7 @@ module _ (ns : List (List ℕ)) (ks : List ℕ) where
         where
           go : (b : Bool) → stands (take p ks) m ≡ b → Earlier ks p m
           go true e = stands-earlier ks p m e
-          go false e = absurd (h p Code.earlyUse (early-use l n (λ y. true≢false
-              (sym (earlier-stands ks p m (y .place) (y .before) (omega (arith, l, y .before)) (y .stands)) ∙ e))))
+          go false e = absurd (h p Code.earlyUse (early-use l n (λ y. true≢false (sym (earlier-stands ks p m l y) ∙ e))))
 
   order-clean : InOrder ns ks → (p c : ℕ) → AtFault ns ks p c → ⊥
   order-clean o p c (wrong-length h) = h (o .every .count)

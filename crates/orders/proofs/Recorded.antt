@@ -53,7 +53,8 @@ module _ (records : List ℕ) (all : List Call) where
       (needs-stored ts (u + 1) (stored-at records rest z (stored-right records _ (wireOf all t) rest s)))
 
   -- the number of uses in the record of a call
-  count-stored : (hs : List Header) (c : Call) (k : ℕ) (ws : List ℕ) → Stored records (k * callSize) (callRecord hs c ++ ws) → usesOf records k ≡ length (used c)
+  count-stored : (hs : List Header) (c : Call) (k : ℕ) (ws : List ℕ) → Stored records (k * callSize) (callRecord hs c ++ ws)
+      → usesOf records k ≡ length (used c)
   unfolding callRecord
   count-stored hs c k ws s = s 3 (omega arith)
 

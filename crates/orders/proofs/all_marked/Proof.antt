@@ -51,7 +51,8 @@ returns : tie.Need-returns Inv-loop μ-loop
 returns c =
     let s = c .before .before .before .before .before in
     let l = c .before .before .before .before .loop in
-    sym (l .inv ∙ marked-not (s .args .records .now) (s .args .marks .now) (s .args .from) (s .args .count) (l .i) (c .before .before .before .loop-test .taken) (c .if1 .taken))
+    let a = s .args in
+    sym (l .inv ∙ marked-not (a .records .now) (a .marks .now) (a .from) (a .count) (l .i) (c .before .before .before .loop-test .taken) (c .if1 .taken))
 
 add-i : tie.Need-add-i Inv-loop μ-loop
 add-i c = search needs
@@ -63,7 +64,8 @@ loop-again : tie.Need-loop-again Inv-loop μ-loop
 loop-again c =
     let s = c .before .before .before .before .before in
     let l = c .before .before .before .before .loop in
-    l .inv ∙ marked-next (s .args .records .now) (s .args .marks .now) (s .args .from) (s .args .count) (l .i) (c .before .before .before .loop-test .taken) (c .if1 .left)
+    let a = s .args in
+    l .inv ∙ marked-next (a .records .now) (a .marks .now) (a .from) (a .count) (l .i) (c .before .before .before .loop-test .taken) (c .if1 .left)
 
 returns-2 : tie.Need-returns-2 Inv-loop μ-loop
 returns-2 c =

@@ -64,16 +64,16 @@ returns-3 c =
     let s = c .before .before .before .before .before .before .before .before .before .before in
     let a = s .args in
     let h = c .before .before .before .before .before .before .if1 .left in
-    row-uses (a .records .now) (a .n) (a .marks .now) (a .k) h (c .before .before .before .before .if2 .left) _ (s .pre .1 .1 (a .k) h) (c .before .all-marked .ensures) false
-    (not-true _ (c .if3 .taken))
+    row-uses (a .records .now) (a .n) (a .marks .now) (a .k) h (c .before .before .before .before .if2 .left) _ (s .pre .1 .1 (a .k) h)
+    (c .before .all-marked .ensures) false (not-true _ (c .if3 .taken))
 
 returns-4 : tie.Need-returns-4
 returns-4 c =
     let s = c .before .before .before .before .before .before .before .before .before .before in
     let a = s .args in
     let h = c .before .before .before .before .before .before .if1 .left in
-    row-uses (a .records .now) (a .n) (a .marks .now) (a .k) h (c .before .before .before .before .if2 .left) _ (s .pre .1 .1 (a .k) h) (c .before .all-marked .ensures) true
-    (not-false _ (c .if3 .left))
+    row-uses (a .records .now) (a .n) (a .marks .now) (a .k) h (c .before .before .before .before .if2 .left) _ (s .pre .1 .1 (a .k) h)
+    (c .before .all-marked .ensures) true (not-false _ (c .if3 .left))
 
 pub code-at-spec : {M : Type 1} → statement M
 code-at-spec =

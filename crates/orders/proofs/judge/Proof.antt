@@ -29,8 +29,10 @@ same-length-2 c = search needs
 
 returns-2 : tie.Need-returns-2
 returns-2 c =
-    let a = c .before .before .before .before .before .before .before .before .before .before .before .before .before .before .before .before .before .args in
-    rows-right (a .records .now) (a .n) (a .order .now) (c .before .before .before .before .before .before .before .before .before .before .before .before .if1 .left) (c .before .before .walk .ensures)
+    let walked = c .before .before in
+    let tested = walked .before .before .before .before .before .before .before .before .before .before in
+    let a = tested .before .before .before .before .before .args in
+    rows-right (a .records .now) (a .n) (a .order .now) (tested .if1 .left) (walked .walk .ensures)
 
 pub judge-spec : {M : Type 1} → statement M
 judge-spec =

@@ -62,7 +62,8 @@ order-stages-requires c κs =
     let g = c .before .before in
     let l = leb-true (length (a .list .now)) maxText (sym (g .before .before .before .text-fits .ensures) ∙ not-false _ (g .before .before .if2 .left)) in
     let d = leb-true (length (a .doc .now)) maxText (sym (g .before .text-fits2 .ensures) ∙ not-false _ (g .if3 .left)) in
-    ((l, d), areas-parts (length (a .work1 .now)) (length (a .work2 .now)) (sym (g .before .before .before .before .before .areas-serve .ensures) ∙ not-false _ (g .before .before .before .before .if1 .left)))
+    let w = sym (g .before .before .before .before .before .areas-serve .ensures) ∙ not-false _ (g .before .before .before .before .if1 .left) in
+    ((l, d), areas-parts (length (a .work1 .now)) (length (a .work2 .now)) w)
 
 clear-requires : tie.Need-clear-requires
 clear-requires c κs = search needs

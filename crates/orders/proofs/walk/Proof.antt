@@ -55,8 +55,11 @@ returns c =
     let a = s .args in
     let l = c .before .before .before .before .before .before .loop in
     let e = c .before .before .code-at .ensures in
-    c .no-text .ensures ∙ ap (λ (x : ℕ). answer x 0 (l .place) 0) e ∙ sym (walked-stop (rows (a .records .now) (a .n)) (a .order .now) (a .marks .now) (l .marks) (l .place) (l .inv)
-    (c .before .before .before .before .before .loop-test .taken) (rows-below (a .records .now) (a .n) (s .pre .0)) (a .n) (λ q. c .before .if1 .taken (e ∙ q)))
+    c .no-text .ensures
+    ∙ ap (λ (x : ℕ). answer x 0 (l .place) 0) e
+    ∙ sym
+    (walked-stop (rows (a .records .now) (a .n)) (a .order .now) (a .marks .now) (l .marks) (l .place) (l .inv) (c .before .before .before .before .before .loop-test .taken)
+    (rows-below (a .records .now) (a .n) (s .pre .0)) (a .n) (λ q. c .before .if1 .taken (e ∙ q)))
 
 mul-marks : tie.Need-mul-marks Inv-loop μ-loop
 mul-marks c =
@@ -102,7 +105,8 @@ returns-2 : tie.Need-returns-2 Inv-loop μ-loop
 returns-2 c =
     let a = c .before .before .before .before .before .before .before .args in
     let l = c .before .before .loop in
-    c .no-text2 .ensures ∙ sym (walked-end (rows (a .records .now) (a .n)) (a .order .now) (a .marks .now) (l .marks) (l .place) (a .n) (l .inv) (c .before .loop-test .left))
+    c .no-text2 .ensures
+    ∙ sym (walked-end (rows (a .records .now) (a .n)) (a .order .now) (a .marks .now) (l .marks) (l .place) (a .n) (l .inv) (c .before .loop-test .left))
 
 pub walk-spec : {M : Type 1} → statement M
 walk-spec =
