@@ -13,8 +13,8 @@ use Rattle.lexis.specs.Lexer.{Token}
 use Rattle.lexis.specs.Words.{sameBytes}
 use Rattle.syntax.specs.Tree.{Value, Param, Arg}
 use Rattle.syntax.specs.Tree.Arg.{positional, named}
-use Rattle.lists.specs.Fault.{Fault, fault, faults, starts, unless}
-use Rattle.lists.specs.Names.{those, isAmong, repeatsAfter, repeats, startOf, valueOf}
+use Rattle.lists.specs.Fault.{fault, starts, unless}
+use Rattle.lists.specs.Names.{those, isAmong, repeatsAfter, repeats, startOf}
 use Rattle.lists.specs.Reading.{Val, isSome, allTensor}
 use Rattle.lists.specs.ListRules.{paramNames}
 use Rattle.lists.proofs.Faultless.{no-faults, no-starts}
@@ -30,7 +30,7 @@ use Rattle.writing.proofs.Planned.{both}
 use Rattle.writing.proofs.PlanExists.{row-none}
 use Rattle.canonical.proofs.Spelt.{tally, tally-append, Within, fresh}
 use Rattle.canonical.proofs.NamedArguments.{or-neither}
-use Rattle.canonical.proofs.Uses.{usedIn, heldIn, size, sizeAny, sizeNamed, read-size, positional-named, uses-more}
+use Rattle.canonical.proofs.Uses.{usedIn, heldIn, size, sizeAny, sizeNamed, read-size, uses-more}
 
 -- ---- names
 

@@ -116,7 +116,7 @@ module _ (g : List ℕ → Bool) where
   no-named [] = refl
   no-named (p ∷ ps) = omega (arith, no-named ps)
 
-  pub positional-named : (v : Value) (xs : List Arg) (ps : List Param) → sizeNamed ps (positional v ∷ xs) ≡ sizeNamed ps xs
+  positional-named : (v : Value) (xs : List Arg) (ps : List Param) → sizeNamed ps (positional v ∷ xs) ≡ sizeNamed ps xs
   unfolding sizeNamed byName
   positional-named v xs [] = refl
   positional-named v xs (p ∷ ps) = ap (λ (n : ℕ). sizeAny (byName (p .name) xs) + n) (positional-named v xs ps)

@@ -2,15 +2,14 @@
 use mathlib.Core.Path.{_≡_, refl, sym, ap, ap₂, _∙_}
 use mathlib.Core.Bool.{Bool, true, false, cond, not, _&&_}
 use mathlib.Core.List.{List, [], _∷_, flatten, List·Memᴰ, List·Memᴰ·head, List·Memᴰ·tail}
-use mathlib.Core.Option.{Option, some}
-use mathlib.Core.Option.{none as nothing}
+use mathlib.Core.Option.{some}
 use Prim.Native.Nat.{ℕ, _<_, _≤_}
 use native.Mathlib.Omega.{arith}
-use lib.Dec.{eqb, ltb}
+use lib.Dec.{ltb}
 use lib.ListN.{length, getD}
 use borrow.Author.Tests.{lt-ltb, le-ltb, ltb-true}
 use Rattle.lexis.specs.Code as Bytes
-use Rattle.lists.specs.Fault.{Fault, fault, unless, earlier, first, by-code}
+use Rattle.lists.specs.Fault.{fault, unless, earlier, first, by-code}
 use Rattle.lists.proofs.First.{is-before}
 use Rattle.documents.specs.Walks.{coded}
 use Rattle.orders.specs.Code as Code

@@ -1,7 +1,7 @@
 -- The faults of an order are the places at fault, each with its code, and there are none exactly where the order is in order. In order:
 -- numbers before a place; a fault of one place; of all places; the first one; no fault.
 use mathlib.Core.Path.{_≡_, refl, sym, ap, ap₂, subst, _∙_}
-use mathlib.Core.Bool.{Bool, true, false, cond, _&&_, _||_, true≢false, false≢true}
+use mathlib.Core.Bool.{Bool, true, false, _&&_, _||_, true≢false, false≢true}
 use mathlib.Core.Logic.{_⊎_, inl, inr, _↔_}
 use mathlib.Core.List.{List, [], _∷_, _++_, flatten, cons≢nil, List·Memᴰ, List·Memᴰ·head, List·Memᴰ·tail, List·Memᴰ·cases-cons, List·Memᴰ·append-cases}
 use mathlib.Core.List.{List·Memᴰ·not-nil, Memᴰ·append-left, Memᴰ·append-right}
@@ -11,11 +11,11 @@ use native.Mathlib.Omega.{arith}
 use lib.Dec.{eqb, ltb}
 use lib.ListN.{length, getD, take, drop, drop-of-length-le}
 use lib.Seq.{take-suc, drop-cons}
-use borrow.Author.Tests.{eqb-true, eqb-false, eq-eqb, ne-eqb, ltb-true, ltb-false, lt-ltb, le-ltb}
+use borrow.Author.Tests.{eqb-true, eqb-false, eq-eqb, ne-eqb, ltb-true, ltb-false, le-ltb}
 use Rattle.lists.specs.Fault.{Fault, fault, unless, Before, by-place, by-code, by-detail, IsFirst}
 use Rattle.orders.specs.Code as Code
 use Rattle.orders.specs.Order.{stands, allStand, outOfRange, repeatedCall, earlyUse, placeFaults, faultsFrom, wrongLength, orderFaults}
-use Rattle.orders.specs.InOrder.{Permutation, NeededAt, Earlier, InOrder, AtFault, wrong-length, out-of-range, repeated-call, early-use, FirstAtFault}
+use Rattle.orders.specs.InOrder.{NeededAt, Earlier, InOrder, AtFault, wrong-length, out-of-range, repeated-call, early-use, FirstAtFault}
 use Rattle.orders.proofs.Places.{PlaceFault, of-range, of-repeat, of-use, unless-is, is-unless, place-fault, fault-place}
 use Rattle.orders.proofs.Permutations.{permuted-below, permuted-once, permutation}
 

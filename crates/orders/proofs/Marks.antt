@@ -1,6 +1,6 @@
 -- The work areas while an order is walked. First they are prepared: the number of each call's first use, and no marks. Then the uses of a
 -- call are held against the marks: the first use, the next, one whose call is not marked, the end.
-use mathlib.Core.Path.{_≡_, refl, sym, ap, ap₂, _∙_}
+use mathlib.Core.Path.{_≡_, refl, ap, ap₂, _∙_}
 use mathlib.Core.Bool.{Bool, true, false, not}
 use mathlib.Core.List.{List}
 use Prim.Native.Nat.{ℕ, zero, suc, _+_, _-_, _<_, _≤_}

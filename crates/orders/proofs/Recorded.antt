@@ -15,7 +15,7 @@ use Rattle.lists.specs.Fault.{first}
 use Rattle.lists.specs.Names.{used, allUsed}
 use Rattle.documents.specs.Wiring.{unwiredAfter}
 use Rattle.documents.specs.Tables.{callRecord, callTable, assigner, wireTable}
-use Rattle.documents.specs.Records.{callSize, wireSize, firstWire, recordsWords, Stored, wireOf, Kept}
+use Rattle.documents.specs.Records.{callSize, wireSize, firstWire, recordsWords, Stored, wireOf}
 use Rattle.documents.specs.Stages.{RecordsKept}
 use Rattle.documents.specs.declared.stages.Sizes.{Sizes}
 use Rattle.documents.proofs.Sums.{flat-append}

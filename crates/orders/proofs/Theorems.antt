@@ -2,7 +2,7 @@
 -- both directions, and that what `check` refuses is refused first. The page of the demands cites these. Assumes nothing.
 use mathlib.Core.Path.{_≡_, refl, sym, ap, _∙_}
 use mathlib.Core.Bool.{Bool, true, false}
-use mathlib.Core.List.{List, []}
+use mathlib.Core.List.{List}
 use mathlib.Core.Logic.{_↔_}
 use mathlib.Core.Option.{Option, some}
 use mathlib.Core.Option.{none as nothing}
@@ -15,7 +15,7 @@ use Rattle.lexis.specs.Code as Code
 use Rattle.lexis.specs.Answer.{answer}
 use Rattle.lexis.specs.declared.Answer.{Answer}
 use Rattle.syntax.specs.Tree.{Header, Document}
-use Rattle.lists.specs.Fault.{Fault, fault, first, IsFirst}
+use Rattle.lists.specs.Fault.{Fault, fault, first}
 use Rattle.lists.specs.Answer.{Stage, pass, stop, andThen, guard, guarded, rulesStage, stageAnswer}
 use Rattle.lists.specs.Accepted.{AcceptedList}
 use Rattle.lists.proofs.First.{first-none, first-is}
