@@ -6,8 +6,10 @@ use std::fmt;
 /// One line for each code: the enum's case, the header's name without `NNEF_`, what it says.
 macro_rules! codes {
     ($($case:ident $name:ident $text:literal)*) => {
-        /// What an operation says of a text. The numbers are those of `include/nnef.h`.
+        /// What an operation says of a text or of an order. The numbers are those of `include/nnef.h`. A later version may have more of
+        /// them, so a `match` needs an arm for the others.
         #[derive(Clone, Copy, Debug, PartialEq, Eq, PartialOrd, Ord, Hash)]
+        #[non_exhaustive]
         #[repr(u32)]
         pub enum Code {
             $(#[doc = $text] $case = raw::$name,)*
