@@ -13,11 +13,13 @@ use Rattle.orders.specs.Order.{needs, orderFaults}
 unfoldable pub orderStage : Checked → List ℕ → Stage Checked
 orderStage k ks = rulesStage 0 k (first (orderFaults (needs (k .document .calls)) ks))
 
+-- the stages of both texts, then this
 unfoldable pub orderStages : List ℕ → List ℕ → List ℕ → Stage Checked
 orderStages list doc ks = andThen (bothStages list doc) (λ k. orderStage k ks)
 
 -- ---- order: from both texts, the lengths of both work areas, and the order
 
+-- the lengths of both work areas
 pub record OrderRoom : Type 0 where
   pub work₁ : ℕ
   pub work₂ : ℕ

@@ -35,9 +35,13 @@ pub record InOrder (ns : List (List ℕ)) (ks : List ℕ) : Type 0 where
 
 -- a place at fault, and a code that it has there
 pub data AtFault (ns : List (List ℕ)) (ks : List ℕ) : ℕ → ℕ → Type 0 where
+  -- 41, at place 0: there are not as many numbers as calls
   wrong-length : (length ks ≡ length ns → ⊥) → AtFault ns ks 0 Code.wrongLength
+  -- 42: the number there is that of no call
   out-of-range : {p : ℕ} → p < length ks → length ns ≤ getD ks p 0 → AtFault ns ks p Code.outOfRange
+  -- 43: it stands at an earlier place too
   repeated-call : {p : ℕ} → p < length ks → Earlier ks p (getD ks p 0) → AtFault ns ks p Code.repeatedCall
+  -- 44: the call there needs one that stands at no earlier place
   early-use : {p m : ℕ} → p < length ks → NeededAt ns ks p m → (Earlier ks p m → ⊥) → AtFault ns ks p Code.earlyUse
 
 -- the first of them: the smallest place, and there the smallest code

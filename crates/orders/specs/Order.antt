@@ -37,14 +37,15 @@ outOfRange ns place k = unless (ltb k (length ns)) (fault Code.outOfRange place)
 unfoldable pub repeatedCall : List ℕ → ℕ → ℕ → List Fault
 repeatedCall js place k = unless (not (stands js k)) (fault Code.repeatedCall place)
 
--- 44: it uses an identifier whose assigning call does not stand before the place
+-- 44: it uses an identifier whose assigning call does not stand before the place; a number of no call uses none
 unfoldable pub earlyUse : List (List ℕ) → List ℕ → ℕ → ℕ → List Fault
 earlyUse ns js place k = unless (allStand js (getD ns k [])) (fault Code.earlyUse place)
 
+-- the faults of one place
 unfoldable pub placeFaults : List (List ℕ) → List ℕ → ℕ → ℕ → List Fault
 placeFaults ns js place k = flatten (outOfRange ns place k ∷ repeatedCall js place k ∷ earlyUse ns js place k ∷ [])
 
--- those of the numbers from a place on
+-- those of the places from one on, which the numbers js stand before
 unfoldable pub faultsFrom : List (List ℕ) → List ℕ → ℕ → List ℕ → List Fault
 faultsFrom ns js place [] = []
 faultsFrom ns js place (k ∷ ks) = placeFaults ns js place k ++ faultsFrom ns (js ++ (k ∷ [])) (suc place) ks

@@ -52,7 +52,7 @@ fn prepare(records: &[u16], n: usize, firsts: &mut [u32], marks: &mut [u32])
     }
 }
 
-// Whether the calls that so many uses need, from use u on, are all marked.
+// Whether the calls that so many uses need, the first of them use number `from`, are all marked.
 fn all_marked(records: &[u16], from: usize, count: usize, marks: &[u32]) -> bool
     requires { ⌜ (recordsWords ≤ length (now records)) × (from + count ≤ maxUses) ⌝ }
     requires { ⌜ ((u : ℕ) → u < from + count → callOf (now records) u < length (now marks)) ⌝ }

@@ -73,7 +73,7 @@ allUses cs = flatMap uses cs
 
 -- ---- calls
 
--- a left side matches the type of the results, with at most eight brackets open at once; a top tuple stands bare and opens none
+-- a left side matches the type of the results, with at most eight brackets open at once; a top tuple may stand bare, and then opens none
 pub data Matches : Ty → Val → Type 0 where
   one : {u : Ty} {v : Val} → Fits names maxBrackets u v → Matches u v
   several : {u t : Ty} {us : Tys} {v w : Val} {vs : Vals}
