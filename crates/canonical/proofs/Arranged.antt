@@ -154,7 +154,7 @@ module _ (list doc : List ℕ) (hs : List Header) (p : Plan) (ks : List ℕ) (l 
       needs-plan list doc hs p l h k (maker makes w) .1
       (subst (List·Memᴰ (maker makes w)) (sym (needed-at makes us k)) (Memᴰ·map (maker makes) (among-member w (getD us k []) a)))
 
-  pub order-permutes : Permutation (length (p .calls)) ks
+  order-permutes : Permutation (length (p .calls)) ks
   order-permutes = subst (λ (n : ℕ). Permutation n ks) (needs-counted list doc hs p l h) (o .every)
 
   pub arranged-lawful : Lawful hs (arrangedPlan ks p)

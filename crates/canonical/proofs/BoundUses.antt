@@ -54,7 +54,7 @@ never-again seen (s ∷ ts) t h a =
     go false e n r = r
 
 -- the first of names without a repeat does not stand among the others, which are without a repeat
-pub first-alone : (seen : List Token) (t : Token) (ts : List Token) → repeatsAfter seen (t ∷ ts) ≡ []
+first-alone : (seen : List Token) (t : Token) (ts : List Token) → repeatsAfter seen (t ∷ ts) ≡ []
     → (isAmong ts t ≡ false) × (repeatsAfter (seen ++ (t ∷ [])) ts ≡ [])
 unfolding isAmong
 first-alone seen t ts h =

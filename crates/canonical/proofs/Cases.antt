@@ -1,4 +1,4 @@
--- Worked examples, by computation: the table of the cases P1 to P12 and of signs, under one statement.
+-- Worked examples, by computation: the table of the cases P1 to P12, of signs and of orders, under one statement.
 use Prim.Native.Nat.{ℕ}
 use Prim.Native.String.{String}
 use mathlib.Core.Path.{_≡_, refl}
@@ -33,6 +33,10 @@ use Rattle.documents.specs.Wiring as W
 use Rattle.documents.specs.DocumentRules as D
 use Rattle.documents.specs.Answer as A
 use Rattle.documents.specs.Answer.{checkAnswer}
+use Rattle.documents.specs.Tables as T
+use Rattle.orders.specs.Order as O
+use Rattle.orders.specs.Answer as J
+use Rattle.orders.specs.Answer.{orderAnswer}
 use Rattle.writing.specs.Plan as Plan
 use Rattle.writing.specs.Spelling as S
 use Rattle.writing.specs.Pieces as Pieces
@@ -42,7 +46,7 @@ use Rattle.canonical.specs.Answer.{written}
 
 -- ---- P1 to P12
 
--- what a case gives: the four numbers of check; the kinds of a text's tokens; the code and the position of a fault; a reduced number;
+-- what a case gives: the four numbers of check or order; the kinds of a text's tokens; the code and the position of a fault; a reduced number;
 -- whether a value fits a type; the bytes that canon writes, or its refusal
 pub data Outcome : Type 0 where
   numbers : Answer → Outcome
@@ -96,6 +100,13 @@ writes : String → String → ℕ → String → Case
 writes list doc n text =
     record { gives = bytesOf (written (ascii list) (ascii doc) (record { work₁ = workWords; work₂ = workWords; out = n })); is = bytes (ascii text) }
 
+-- the pair of the layout's example, whose second call uses what the first assigns, under an order
+orders : List ℕ → Answer → Case
+orders ks r =
+    let list = ascii "fragment external(shape: extent[]) -> (output: tensor) fragment scale(x: tensor, by: scalar = 1) -> (y: tensor)" in
+    let doc = ascii "version 1.0 graph win(px) -> (out) { px = external(shape=[01,9]); out = scale(px, by=0.50) }" in
+    record { gives = numbers (orderAnswer list doc (record { work₁ = workWords; work₂ = workWords }) ks); is = numbers r }
+
 pub cases : List Case
 cases =
     -- P1
@@ -137,6 +148,12 @@ cases =
     "version 1.0 graph win(px) -> (out) { px = external(shape=[9]); out = shift(px, to=[- 0.50, -0]) }"
     99
     "version 1.0\ngraph win(px)->(out)\n{\npx=external(shape=[9]);\nout=shift(x=px,by=-1,to=[-5e-1,0e0]);\n}\n"
+    -- orders: in order; of no number; of no call; a repeat; a use before its assignment, which its first place decides
+    ∷ orders (0 ∷ 1 ∷ []) (answer 0 0 0 2)
+    ∷ orders [] (answer 41 0 0 0)
+    ∷ orders (0 ∷ 4294967295 ∷ []) (answer 42 0 1 0)
+    ∷ orders (0 ∷ 0 ∷ []) (answer 43 0 1 0)
+    ∷ orders (1 ∷ 1 ∷ []) (answer 44 0 0 0)
     ∷ []
 
 pub right : map (λ (c : Case). c .gives) cases ≡ map (λ (c : Case). c .is) cases
@@ -148,8 +165,9 @@ unfolding flatten flatMap classOf spanLen gapFrom sameBytes words kindIn fracLen
     Plan.planOf F.before F.first N.those N.isAmong N.repeatsAfter N.namesIn N.namesOf N.used N.allAssigned N.allUsed L.listCounts L.listRepeats
     L.badDefaults L.listFaults B.labels B.taken B.misplacedFrom B.misnamed B.misfits B.lacked W.again W.unwiredAfter W.misfedBy W.misfed W.unmade
     D.badVersion D.documentCounts D.graphRepeats D.undeclared D.argumentFaults D.unmatched D.documentFaults listStages A.documentStages A.bothStages
-    A.checked A.checkAnswer S.decimalBy S.decimal S.spellExponent S.spellNumber S.holdsSingle S.quoteFor S.spellString Pieces.text Layout.signPieces
-    Layout.pieces Layout.items Layout.moreItems Layout.leftPieces Layout.moreNamesPieces Layout.namesPieces Layout.moreArgumentsPieces
+    T.assigner O.needs O.stands O.allStand O.outOfRange O.repeatedCall O.earlyUse O.placeFaults O.faultsFrom O.wrongLength O.orderFaults J.orderStage
+    J.orderStages J.judged J.orderAnswer A.checked A.checkAnswer S.decimalBy S.decimal S.spellExponent S.spellNumber S.holdsSingle S.quoteFor
+    S.spellString Pieces.text Layout.signPieces Layout.pieces Layout.items Layout.moreItems Layout.leftPieces Layout.moreNamesPieces Layout.namesPieces Layout.moreArgumentsPieces
     Layout.argumentsPieces Layout.callPieces Layout.callsPieces Layout.documentPieces C.layoutOf C.writingStages C.textStages C.written cases tokensOf
-    checks outcome lexes reduces fitsParsed suits bytesOf writes
+    checks outcome lexes reduces fitsParsed suits bytesOf writes orders
 right = refl

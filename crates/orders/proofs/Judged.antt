@@ -46,7 +46,7 @@ module _ (ns : List (List ℕ)) (ks : List ℕ) where
       go true z l = by-code (sym (eqb-true (x .at) 0 z)) (omega (arith, l))
       go false z l = let y : 0 < x .at = omega (arith, eqb-false (x .at) 0 z) in by-place y
 
-  pub length-wrong : (length ks ≡ length ns → ⊥) → orderedBy ns ks ≡ answer Code.wrongLength 0 0 0
+  length-wrong : (length ks ≡ length ns → ⊥) → orderedBy ns ks ≡ answer Code.wrongLength 0 0 0
   unfolding orderedBy orderFaults wrongLength first
   length-wrong h =
       let f : first (unless (eqb (length ks) (length ns)) (fault Code.wrongLength 0) ++ faultsFrom ns [] 0 ks) ≡ some (fault Code.wrongLength 0) =
@@ -55,7 +55,7 @@ module _ (ns : List (List ℕ)) (ks : List ℕ) where
       ∙ length-first (first (faultsFrom ns [] 0 ks)) refl in
       rw f
 
-  pub length-right : length ks ≡ length ns → orderedBy ns ks ≡ answerOf (length ns) (faultsFrom ns [] 0 ks)
+  length-right : length ks ≡ length ns → orderedBy ns ks ≡ answerOf (length ns) (faultsFrom ns [] 0 ks)
   unfolding orderedBy orderFaults wrongLength
   length-right h =
       ap (λ (b : Bool). answerOf (length ns) (unless b (fault Code.wrongLength 0) ++ faultsFrom ns [] 0 ks)) (eq-eqb (length ks) (length ns) h)

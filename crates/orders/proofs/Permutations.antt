@@ -23,7 +23,7 @@ unfoldable pub sumTo : (ℕ → ℕ) → ℕ → ℕ
 sumTo f zero = 0
 sumTo f (suc n) = sumTo f n + f n
 
-pub sum-same : (f g : ℕ → ℕ) (n : ℕ) → ((k : ℕ) → k < n → f k ≡ g k) → sumTo f n ≡ sumTo g n
+sum-same : (f g : ℕ → ℕ) (n : ℕ) → ((k : ℕ) → k < n → f k ≡ g k) → sumTo f n ≡ sumTo g n
 unfolding sumTo
 sum-same f g zero h = refl
 sum-same f g (suc n) h = ap₂ _+_ (sum-same f g n (λ k l. h k (omega (arith, l)))) (h n (omega arith))
@@ -117,7 +117,7 @@ occurs-at (k ∷ ks) (suc i) h = go (eqb k (getD ks i 0)) (occurs-at ks i (le-of
     go false r = r
 
 -- and stands somewhere where it is counted
-pub occurs-place : (k : ℕ) (ks : List ℕ) → 0 < occurrences k ks → (i : ℕ) × ((i < length ks) × (getD ks i 0 ≡ k))
+occurs-place : (k : ℕ) (ks : List ℕ) → 0 < occurrences k ks → (i : ℕ) × ((i < length ks) × (getD ks i 0 ≡ k))
 unfolding occurrences
 occurs-place k [] h = absurd (not-suc-le-zero h)
 occurs-place k (j ∷ ks) h = go (eqb j k) refl h (occurs-place k ks)
@@ -198,9 +198,6 @@ module _ (n : ℕ) (ks : List ℕ) (p : Permutation n ks) where
   permuted-sum f =
       sum-counted f n ks permuted-below
       ∙ sum-same (λ k. occurrences k ks * f k) f n (λ k l. ap (λ (x : ℕ). x * f k) (p .once k l) ∙ one-mul (f k))
-
-  pub permuted-place : (k : ℕ) → k < n → (i : ℕ) × ((i < length ks) × (getD ks i 0 ≡ k))
-  permuted-place k h = occurs-place k ks (omega (arith, p .once k h))
 
   pub permuted-once : (i j : ℕ) → i < length ks → j < length ks → getD ks i 0 ≡ getD ks j 0 → i ≡ j
   permuted-once i j h l e = go (ltb i j) (ltb j i) refl refl

@@ -102,7 +102,7 @@ module _ (records : List ℕ) (all : List Call) where
 -- ---- needs are calls
 
 -- a member of a list stands between two parts
-pub split : {A : Type 0} {x : A} (xs : List A) → List·Memᴰ x xs → (ys : List A) × ((zs : List A) × (xs ≡ ys ++ (x ∷ zs)))
+split : {A : Type 0} {x : A} (xs : List A) → List·Memᴰ x xs → (ys : List A) × ((zs : List A) × (xs ≡ ys ++ (x ∷ zs)))
 split [] m = elim m [ ]
 split {A} {x} (y ∷ xs) m = go (List·Memᴰ·cases-cons m) (split xs)
   where
@@ -112,7 +112,7 @@ split {A} {x} (y ∷ xs) m = go (List·Memᴰ·cases-cons m) (split xs)
     go (inr m) r = let s = r m in (y ∷ s .0, (s .1 .0, ap (λ (l : List A). y ∷ l) (s .1 .1)))
 
 -- a member of lists in a row is one of a single list
-pub one-of : {A B : Type 0} (f : A → List B) (xs : List A) {b : B} → List·Memᴰ b (flatMap f xs) → (a : A) × (List·Memᴰ a xs × List·Memᴰ b (f a))
+one-of : {A B : Type 0} (f : A → List B) (xs : List A) {b : B} → List·Memᴰ b (flatMap f xs) → (a : A) × (List·Memᴰ a xs × List·Memᴰ b (f a))
 unfolding flatMap
 one-of f [] m = elim m [ ]
 one-of {A} {B} f (x ∷ xs) {b} m = go (List·Memᴰ·append-cases (f x) m) (one-of f xs)
@@ -123,9 +123,9 @@ one-of {A} {B} f (x ∷ xs) {b} m = go (List·Memᴰ·append-cases (f x) m) (one
     go (inr m) r = let s = r m in (s .0, (List·Memᴰ·tail (s .1 .0), s .1 .1))
 
 -- an identifier that is used is assigned by one of the calls
-pub assigner-below : (cs : List Call) → unwiredAfter [] cs ≡ [] → (t : Token) → List·Memᴰ t (allUsed cs) → assigner cs t < length cs
+need-below : (cs : List Call) → unwiredAfter [] cs ≡ [] → (t : Token) → List·Memᴰ t (allUsed cs) → assigner cs t < length cs
 unfolding allUsed
-assigner-below cs e t m =
+need-below cs e t m =
     let o = one-of used cs m in
     let s = split cs (o .1 .0) in
     let u = split (used (o .0)) (o .1 .1) in
@@ -177,6 +177,6 @@ module _ (records : List ℕ) {list doc : List ℕ} {s : Sizes} (k : RecordsKept
             let z : 0 + u ≡ u = omega arith in
             let c : getD (map (assigner cs) (allUsed cs)) u 0 ≡ callOf records u =
             ap (λ (xs : List ℕ). getD xs u 0) (sym n) ∙ needs-at records (length (allUsed cs)) 0 u j ∙ ap (callOf records) z in
-            let m = map-below (assigner cs) (length cs) (allUsed cs) (assigner-below cs e) u j in
+            let m = map-below (assigner cs) (length cs) (allUsed cs) (need-below cs e) u j in
             omega (arith, m, c, k .kept .counted);
       }

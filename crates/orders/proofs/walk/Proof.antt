@@ -58,8 +58,9 @@ returns c =
     c .no-text .ensures
     ∙ ap (λ (x : ℕ). answer x 0 (l .place) 0) e
     ∙ sym
-    (walked-stop (rows (a .records .now) (a .n)) (a .order .now) (a .marks .now) (l .marks) (l .place) (l .inv) (c .before .before .before .before .before .loop-test .taken)
-    (rows-below (a .records .now) (a .n) (s .pre .0)) (a .n) (λ q. c .before .if1 .taken (e ∙ q)))
+    (walked-stop (rows (a .records .now) (a .n)) (a .order .now) (a .marks .now) (l .marks) (l .place) (l .inv)
+    (c .before .before .before .before .before .loop-test .taken) (rows-below (a .records .now) (a .n) (s .pre .0)) (a .n)
+    (λ q. c .before .if1 .taken (e ∙ q)))
 
 mul-marks : tie.Need-mul-marks Inv-loop μ-loop
 mul-marks c =
