@@ -90,10 +90,13 @@ module _ (ns ms : List (List ℕ)) (e : length ns ≡ length ms) (h : (k m : ℕ
       flatten (unless (ltb k n) (fault Code.outOfRange p) ∷ repeatedCall js p k ∷ unless b (fault Code.earlyUse p) ∷ []) in
       ap₂ (λ (xs ys : List Fault). xs ++ ys) (ap₂ place e (all-same js (getD ns k []) (getD ms k []) (h k))) (from-same (js ++ (k ∷ [])) (suc p) ks)
 
+  length-same : (ks : List ℕ) → wrongLength ns ks ≡ wrongLength ms ks
+  unfolding wrongLength
+  length-same ks = rw e
+
   pub faults-same : (ks : List ℕ) → orderFaults ns ks ≡ orderFaults ms ks
-  unfolding orderFaults wrongLength
-  faults-same ks =
-      ap₂ (λ (n : ℕ) (xs : List Fault). unless (eqb (length ks) n) (fault Code.wrongLength 0) ++ xs) e (from-same [] 0 ks)
+  unfolding orderFaults
+  faults-same ks = ap₂ (λ (xs ys : List Fault). xs ++ ys) (length-same ks) (from-same [] 0 ks)
 
 -- ---- one place
 
