@@ -9,12 +9,13 @@ use lib.Dec.{eqb, leb}
 use lib.IntN.{ℤ, pos, negsuc, natAbs}
 use lib.ListN.{length, take}
 use borrow.Author.Tests.{eqb-false, leb-true}
+use Rattle.spellings.specs.Comparison.{sameBytes}
 use Rattle.lexis.specs.Sizes.{maxName, maxTokens, maxExtent}
 use Rattle.lexis.specs.Ascii.{ascii, byte}
 use Rattle.lexis.specs.Class as Class
 use Rattle.lexis.specs.Kind as Kind
 use Rattle.lexis.specs.Bytes.{classOf, isNamePart, isContent, spanLen}
-use Rattle.lexis.specs.Words.{sameBytes, words, kindIn, kindOfWord}
+use Rattle.lexis.specs.Words.{words, kindIn, kindOfWord}
 use Rattle.lexis.specs.Number.{Reduced}
 use Rattle.lexis.specs.Code as Code
 use Rattle.lexis.specs.Lexer.{Token, accepted, refused, lex, Placed}

@@ -1,16 +1,18 @@
--- Worked examples, by computation: the table of the cases P1 to P12, of signs and of orders, under one statement.
+-- Worked examples, by computation: the table of the cases P1 to P12, of signs, of orders and of names that are compared, under one statement.
 use Prim.Native.Nat.{ℕ}
 use Prim.Native.String.{String}
 use mathlib.Core.Path.{_≡_, refl}
 use mathlib.Core.Bool.{Bool, true, false}
 use mathlib.Core.List.{List, [], _∷_, map, flatMap, flatten}
 use lib.IntN.{ℤ, pos}
+use Rattle.spellings.specs.declared.Comparison.{Comparison}
+use Rattle.spellings.specs.Comparison.{sameBytes, throughDifference, pairs, told, comparison}
 use Rattle.lexis.specs.Sizes.{maxBrackets, workWords, callWords, wireWords}
 use Rattle.lexis.specs.Ascii.{ascii}
 use Rattle.lexis.specs.Code as Code
 use Rattle.lexis.specs.Kind as Kind
 use Rattle.lexis.specs.Bytes.{classOf, spanLen, gapFrom}
-use Rattle.lexis.specs.Words.{sameBytes, words, kindIn}
+use Rattle.lexis.specs.Words.{words, kindIn}
 use Rattle.lexis.specs.Number.{fracLen, signLen, isE, expLen, partsOf, sticks, valueFrom, writtenOf, minusOf, strip, reducedOf, isNear, isSmall, inRange}
 use Rattle.lexis.specs.Lexeme.{numberLexeme, wordLexeme, stringLexeme, takesEqual, isPair, isArrow, markLexeme, lexeme}
 use Rattle.lexis.specs.Lexer.{Token, Lexed, accepted, refused, admit, lexFrom, lex}
@@ -47,7 +49,7 @@ use Rattle.canonical.specs.Answer.{written}
 -- ---- P1 to P12
 
 -- what a case gives: the four numbers of check or order; the kinds of a text's tokens; the code and the position of a fault; a reduced number;
--- whether a value fits a type; the bytes that canon writes, or its refusal
+-- whether a value fits a type; the bytes that canon writes, or its refusal; the comparison of two names
 pub data Outcome : Type 0 where
   numbers : Answer → Outcome
   kinds : List ℕ → Outcome
@@ -55,6 +57,7 @@ pub data Outcome : Type 0 where
   reduced : ℕ → ℤ → Outcome
   fits : Bool → Outcome
   bytes : List ℕ → Outcome
+  compared : Comparison → Outcome
 
 pub record Case : Type 0 where
   pub gives : Outcome
@@ -107,6 +110,9 @@ orders ks r =
     let doc = ascii "version 1.0 graph win(px) -> (out) { px = external(shape=[01,9]); out = scale(px, by=0.50) }" in
     record { gives = numbers (orderAnswer list doc (record { work₁ = workWords; work₂ = workWords }) ks); is = numbers r }
 
+compares : String → String → Bool → ℕ → Case
+compares a b s n = record { gives = compared (comparison (ascii a) (ascii b)); is = compared (told s n) }
+
 pub cases : List Case
 cases =
     -- P1
@@ -154,20 +160,30 @@ cases =
     ∷ orders (0 ∷ 4294967295 ∷ []) (answer 42 0 1 0)
     ∷ orders (0 ∷ 0 ∷ []) (answer 43 0 1 0)
     ∷ orders (1 ∷ 1 ∷ []) (answer 44 0 0 0)
+    -- names: of unequal lengths; with unequal last bytes; with a first difference at 0, and at 3; equal; both empty; of one byte
+    ∷ compares "gain" "gain_1" false 0
+    ∷ compares "gain_1" "gain_2" false 1
+    ∷ compares "gain_1" "main_1" false 2
+    ∷ compares "gain_1" "gait_1" false 5
+    ∷ compares "gain_1" "gain_1" true 6
+    ∷ compares "" "" true 0
+    ∷ compares "x" "y" false 1
+    ∷ compares "x" "x" true 1
     ∷ []
 
 pub right : map (λ (c : Case). c .gives) cases ≡ map (λ (c : Case). c .is) cases
-unfolding flatten flatMap classOf spanLen gapFrom sameBytes words kindIn fracLen signLen isE expLen partsOf sticks valueFrom writtenOf minusOf strip
-    reducedOf isNear isSmall inRange numberLexeme wordLexeme stringLexeme takesEqual isPair isArrow markLexeme lexeme admit lexFrom terminals symbolIn
-    symbolOf symOf P.expect P.follow P.rowF P.row P.negative P.valueStep P.arrayItems P.tupleItems P.bracketed P.value P.typeName P.dims P.tupleTypes
-    P.baseStep P.type P.default P.param P.result P.header P.operations P.argument P.left P.call P.document R.isExtent R.readAt R.readAll R.readEach R.fits
-    R.allTensor R.allTensors R.typesOf R.resultType B.leading B.byName B.slotsFrom operationOf Plan.valueFor Plan.valuesFor Plan.planCall Plan.planCalls
-    Plan.planOf F.before F.first N.those N.isAmong N.repeatsAfter N.namesIn N.namesOf N.used N.allAssigned N.allUsed L.listCounts L.listRepeats
-    L.badDefaults L.listFaults B.labels B.taken B.misplacedFrom B.misnamed B.misfits B.lacked W.again W.unwiredAfter W.misfedBy W.misfed W.unmade
-    D.badVersion D.documentCounts D.graphRepeats D.undeclared D.argumentFaults D.unmatched D.documentFaults listStages A.documentStages A.bothStages
-    T.assigner O.needs O.stands O.allStand O.outOfRange O.repeatedCall O.earlyUse O.placeFaults O.faultsFrom O.wrongLength O.orderFaults J.orderStage
-    J.orderStages J.judged J.orderAnswer A.checked A.checkAnswer S.decimalBy S.decimal S.spellExponent S.spellNumber S.holdsSingle S.quoteFor
-    S.spellString Pieces.text Layout.signPieces Layout.pieces Layout.items Layout.moreItems Layout.leftPieces Layout.moreNamesPieces Layout.namesPieces Layout.moreArgumentsPieces
-    Layout.argumentsPieces Layout.callPieces Layout.callsPieces Layout.documentPieces C.layoutOf C.writingStages C.textStages C.written cases tokensOf
-    checks outcome lexes reduces fitsParsed suits bytesOf writes orders
+unfolding flatten flatMap sameBytes throughDifference pairs comparison classOf spanLen gapFrom words kindIn fracLen signLen isE expLen partsOf sticks
+    valueFrom writtenOf minusOf strip reducedOf isNear isSmall inRange numberLexeme wordLexeme stringLexeme takesEqual isPair isArrow markLexeme
+    lexeme admit lexFrom terminals symbolIn symbolOf symOf P.expect P.follow P.rowF P.row P.negative P.valueStep P.arrayItems P.tupleItems P.bracketed
+    P.value P.typeName P.dims P.tupleTypes P.baseStep P.type P.default P.param P.result P.header P.operations P.argument P.left P.call P.document
+    R.isExtent R.readAt R.readAll R.readEach R.fits R.allTensor R.allTensors R.typesOf R.resultType B.leading B.byName B.slotsFrom operationOf
+    Plan.valueFor Plan.valuesFor Plan.planCall Plan.planCalls Plan.planOf F.before F.first N.those N.isAmong N.repeatsAfter N.namesIn N.namesOf N.used
+    N.allAssigned N.allUsed L.listCounts L.listRepeats L.badDefaults L.listFaults B.labels B.taken B.misplacedFrom B.misnamed B.misfits B.lacked
+    W.again W.unwiredAfter W.misfedBy W.misfed W.unmade D.badVersion D.documentCounts D.graphRepeats D.undeclared D.argumentFaults D.unmatched
+    D.documentFaults listStages A.documentStages A.bothStages T.assigner O.needs O.stands O.allStand O.outOfRange O.repeatedCall O.earlyUse
+    O.placeFaults O.faultsFrom O.wrongLength O.orderFaults J.orderStage J.orderStages J.judged J.orderAnswer A.checked A.checkAnswer S.decimalBy
+    S.decimal S.spellExponent S.spellNumber S.holdsSingle S.quoteFor S.spellString Pieces.text Layout.signPieces Layout.pieces Layout.items
+    Layout.moreItems Layout.leftPieces Layout.moreNamesPieces Layout.namesPieces Layout.moreArgumentsPieces Layout.argumentsPieces Layout.callPieces
+    Layout.callsPieces Layout.documentPieces C.layoutOf C.writingStages C.textStages C.written cases tokensOf checks outcome lexes reduces fitsParsed
+    suits bytesOf writes orders compares
 right = refl

@@ -4,8 +4,8 @@ use mathlib.Core.Bool.{Bool, true, false, cond, false≢true}
 use mathlib.Core.List.{List, [], _∷_}
 use mathlib.Core.Option.{Option, some}
 use Prim.Native.Nat.{ℕ}
+use Rattle.spellings.specs.Comparison.{sameBytes}
 use Rattle.lexis.specs.Lexer.{Token}
-use Rattle.lexis.specs.Words.{sameBytes}
 use Rattle.syntax.specs.Tree.{Value, Values, Param, Header}
 use Rattle.lexis.specs.Symbol.{rightRound}
 use Rattle.syntax.specs.Grammar.{Separated, last, next, literals, Spells, a-name, a-literal, an-empty-array, an-array, a-tuple, Items, last-item, next-item}

@@ -1,14 +1,17 @@
--- The three demands, clause by clause and in their order, for the five operations: statements, each proved in a file that is named at its
--- `use`. What the words mean stands in specs/: answers and lent words afterwards in `Answer` of each crate, acceptance in `Accepted`
--- of `lists` and `documents`, the first fault in `Fault` of `lists`, the table of codes in `CodeTable`, plans and canonical texts in `Plan`
--- and `Layout`, lawful plans in `Lawful`, orders in `Order` and `InOrder`. `docs/DEMANDS.md` reads this page aloud.
+-- The three demands, clause by clause and in their order, for the five operations, and the comparison of names: statements, each proved in a
+-- file that is named at its `use`. What the words mean stands in specs/: answers and lent words afterwards in `Answer` of each crate,
+-- acceptance in `Accepted` of `lists` and `documents`, the first fault in `Fault` of `lists`, the table of codes in `CodeTable`, plans and
+-- canonical texts in `Plan` and `Layout`, lawful plans in `Lawful`, orders in `Order` and `InOrder`, the comparison in `Comparison` of
+-- `spellings`. `docs/DEMANDS.md` reads this page aloud.
 use mathlib.Core.Path.{_≡_}
 use mathlib.Core.Bool.{Bool, true, false, cond}
 use mathlib.Core.List.{List, [], _∷_, _++_, map, flatten}
-use mathlib.Core.Logic.{_↔_}
-use Prim.Native.Nat.{ℕ, suc, _*_, _≤_, _<_}
+use mathlib.Core.Logic.{_↔_, _⊎_}
+use Prim.Native.Nat.{ℕ, suc, _+_, _*_, _≤_, _<_}
 use lib.ListN.{length, getD, replicate}
 use lib.Seq.{sets}
+use Rattle.spellings.specs.Comparison.{sameBytes, lastByte, pairs, comparison, maxCount, wordsOf, Agree}
+use Rattle.spellings.proofs.Theorems as Spellings
 use Rattle.lexis.specs.Sizes.{maxText, maxTokens, maxBrackets, tokenWords, tableWords, workWords, maxExtent}
 use Rattle.lexis.specs.Code as Code
 use Rattle.lexis.specs.Ascii.{ascii}
@@ -409,3 +412,45 @@ module _ (list : List ℕ) (hs : List Header) (fixed : AcceptedList list hs) whe
   pub arranged-wires : (p : Plan) (ks : List ℕ) → Permutation (length (p .calls)) ks → (g : HasPlan hs (canonical hs p) p)
       (g' : HasPlan hs (canonical hs (arrangedPlan ks p)) (arrangedPlan ks p)) → Rewired ks (g .tree .calls) (g' .tree .calls)
   arranged-wires p ks o g g' = Arranged.arranged-wires list hs p ks fixed o g g'
+
+-- ==== The comparison of two names, by which every name is looked up: lengths before bytes, and the last byte before the others. It takes names of
+-- any lengths, refuses nothing and writes nothing, so no four numbers are answered; its contract fixes the verdict and the count of pairs
+-- (`comparison`). `lastByte` is the last byte of a name, and `Agree a b d` says that the bytes before place d are the same.
+
+module _ (a b : List ℕ) where
+  -- the verdict: two names are the same exactly when they are equal
+  pub compare-exactly : (sameBytes a b ≡ true) ↔ (a ≡ b)
+  compare-exactly = Spellings.same-exactly a b
+
+  -- the count: no pair for unequal lengths,
+  pub compare-lengths : (length a ≡ length b → ⊥) → pairs a b ≡ 0
+  compare-lengths = Spellings.pairs-lengths a b
+
+  -- one for unequal last bytes,
+  pub compare-last : length a ≡ length b → (lastByte a ≡ lastByte b → ⊥) → pairs a b ≡ 1
+  compare-last = Spellings.pairs-last a b
+
+  -- else, with the first difference at place d, the pair of the last bytes and d + 1 from the front,
+  pub compare-front : length a ≡ length b → lastByte a ≡ lastByte b → (d : ℕ) → d < length a → Agree a b d → (getD a d 0 ≡ getD b d 0 → ⊥)
+      → pairs a b ≡ d + 2
+  compare-front = Spellings.pairs-front a b
+
+  -- and the length for equal names
+  pub compare-equal : a ≡ b → pairs a b ≡ length a
+  compare-equal = Spellings.pairs-same a b
+
+  -- it is at most the length
+  pub compare-most : (pairs a b ≤ length a) × (pairs a b ≤ length b)
+  compare-most = Spellings.pairs-most a b
+
+  -- it is 0 exactly where the lengths differ or both names are empty
+  pub compare-none : (pairs a b ≡ 0) ↔ ((length a ≡ length b → ⊥) ⊎ ((a ≡ []) × (b ≡ [])))
+  compare-none = Spellings.pairs-none a b
+
+  -- the exported word has the whole count for names of at most 4,294,967,295 bytes
+  pub compare-word : length a ≤ maxCount → wordsOf (comparison a b) .pairs ≡ pairs a b
+  compare-word = Spellings.pairs-word a b
+
+  -- the order of the two does not matter
+  pub compare-swapped : comparison a b ≡ comparison b a
+  compare-swapped = Spellings.swapped a b

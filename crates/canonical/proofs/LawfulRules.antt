@@ -7,9 +7,9 @@ use mathlib.Core.List.{tail-eq-of-cons-eq}
 use mathlib.Core.Logic.{_↔_, Iff·trans, Iff·and}
 use Prim.Native.Nat.{ℕ, suc, _≤_}
 use lib.ListN.{length, length-map}
+use Rattle.spellings.specs.Comparison.{sameBytes}
 use Rattle.lexis.specs.Ascii.{ascii}
 use Rattle.lexis.specs.Sizes.{maxInputs, maxOutputs, maxCalls, maxAssigned, maxUses}
-use Rattle.lexis.specs.Words.{sameBytes}
 use Rattle.lexis.specs.Lexer.{Token}
 use Rattle.syntax.specs.Tree.{Header, Call, Document}
 use Rattle.lists.specs.Fault.{faults, starts}

@@ -6,8 +6,8 @@ use mathlib.Core.List.{List, [], _∷_, _++_, flatMap, flatten, append-assoc, ma
 use mathlib.Core.Option.{Option, some}
 use mathlib.Core.Option.{none as nothing}
 use Prim.Native.Nat.{ℕ, suc}
+use Rattle.spellings.specs.Comparison.{sameBytes}
 use Rattle.lexis.specs.Lexer.{Token}
-use Rattle.lexis.specs.Words.{sameBytes}
 use Rattle.syntax.specs.Tree.{Value, Ty, Param, Arg}
 use Rattle.lists.specs.Names.{those, isAmong, repeatsAfter, repeats}
 use Rattle.lists.specs.Reading.{Val, bind, readAt, isSome, fits}

@@ -9,9 +9,9 @@ use mathlib.Core.Option.{none as nothing}
 use Prim.Native.Nat.{ℕ, suc, _<_}
 use native.Mathlib.Omega.{arith}
 use lib.ListN.{length}
+use Rattle.spellings.specs.Comparison.{sameBytes}
 use Rattle.lexis.specs.Sizes.{maxBrackets}
 use Rattle.lexis.specs.Lexer.{Token}
-use Rattle.lexis.specs.Words.{sameBytes}
 use Rattle.syntax.specs.Tree.{Value, Ty, Tys, Param, Result, Header, Arg, Call, Document}
 use Rattle.syntax.specs.Tree.Arg.{positional, named}
 use Rattle.syntax.specs.Grammar.{names, literals, both, Separated, last, next, Dims, no-pair, a-pair, IsType, a-plain, a-tuple-type, IsTypes, last-type}

@@ -9,8 +9,8 @@ use native.Mathlib.Omega.{arith}
 use lib.Dec.{ltb}
 use lib.ListN.{length, length-map}
 use borrow.Author.Tests.{ltb-true, ltb-false, lt-ltb}
+use Rattle.spellings.specs.Comparison.{sameBytes}
 use Rattle.lexis.specs.Lexer.{Token}
-use Rattle.lexis.specs.Words.{sameBytes}
 use Rattle.lists.specs.Fault.{faults, starts}
 use Rattle.lists.specs.Names.{those, isAmong, repeatsAfter, repeats}
 use Rattle.lists.specs.ListRules.{over}

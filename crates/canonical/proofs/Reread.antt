@@ -10,9 +10,9 @@ use lib.Dec.{eqb}
 use lib.ListN.{length, length-append, getD}
 use lib.Seq.{take-append-seam}
 use lib.IntN.{ℤ, pos, negsuc, natAbs}
+use Rattle.spellings.specs.Comparison.{sameBytes}
 use Rattle.lexis.specs.Ascii.{ascii}
 use Rattle.lexis.specs.Kind as Kind
-use Rattle.lexis.specs.Words.{sameBytes}
 use Rattle.lexis.specs.Lexer.{Token}
 use Rattle.lexis.specs.Symbol.{symOf, symbolOf, isLiteral, aNumber}
 use Rattle.syntax.specs.Tree.{unsigned, negated, Value, Values, Ty, Tys}

@@ -7,8 +7,8 @@ use mathlib.Core.Logic.{_↔_}
 use Prim.Native.Nat.{ℕ, suc, _+_, _≤_}
 use native.Mathlib.Omega.{arith}
 use lib.ListN.{length, take, drop, drop-of-length-le, length-map}
+use Rattle.spellings.specs.Comparison.{sameBytes}
 use Rattle.lexis.specs.Lexer.{Token}
-use Rattle.lexis.specs.Words.{sameBytes}
 use Rattle.lists.specs.Fault.{faults, starts}
 use Rattle.lists.specs.Names.{those, isAmong, repeatsAfter}
 use Rattle.lists.specs.ListRules.{over}

@@ -10,8 +10,8 @@ use native.Mathlib.Omega.{arith}
 use lib.Dec.{ltb}
 use lib.ListN.{length}
 use borrow.Author.Tests.{ltb-true}
+use Rattle.spellings.specs.Comparison.{sameBytes}
 use Rattle.lexis.specs.Sizes.{maxOperations}
-use Rattle.lexis.specs.Words.{sameBytes}
 use Rattle.lexis.specs.Lexer.{Token}
 use Rattle.syntax.specs.Tree.{Param, Header}
 use Rattle.lists.specs.Fault.{first}

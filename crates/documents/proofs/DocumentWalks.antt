@@ -4,9 +4,9 @@ use mathlib.Core.Path.{_≡_, refl, sym, ap, ap₂, subst, _∙_}
 use mathlib.Core.List.{List, [], append-nil}
 use mathlib.Core.Option.{Option}
 use Prim.Native.Nat.{ℕ, zero, suc, _<_}
+use Rattle.spellings.specs.Comparison.{sameBytes}
 use Rattle.lexis.specs.Ascii.{ascii}
 use Rattle.lexis.specs.Sizes.{maxInputs, maxOutputs}
-use Rattle.lexis.specs.Words.{sameBytes}
 use Rattle.lexis.specs.Lexer.{Token}
 use Rattle.syntax.specs.Tree.{Header, Document}
 use Rattle.syntax.specs.Table.{tokenAt, toks}

@@ -6,8 +6,8 @@ use mathlib.Core.Option.{Option, some}
 use mathlib.Core.Option.{none as nothing}
 use Prim.Native.Nat.{suc}
 use lib.ListN.{length}
+use Rattle.spellings.specs.Comparison.{sameBytes}
 use Rattle.lexis.specs.Lexer.{Token}
-use Rattle.lexis.specs.Words.{sameBytes}
 use Rattle.syntax.specs.Tree.{Value, Arg}
 use Rattle.syntax.specs.Tree.Arg.{positional, named}
 use Rattle.lists.specs.Reading.{isSome}

@@ -9,9 +9,9 @@ use mathlib.Core.Option.{none as nothing}
 use Prim.Native.Nat.{ℕ, suc, _+_, _<_, _≤_}
 use native.Mathlib.Omega.{arith}
 use lib.ListN.{length}
+use Rattle.spellings.specs.Comparison.{sameBytes}
 use Rattle.lexis.specs.Sizes.{maxParameters, maxInputs, maxOutputs, maxCalls, maxAssigned, maxUses}
 use Rattle.lexis.specs.Ascii.{ascii}
-use Rattle.lexis.specs.Words.{sameBytes}
 use Rattle.lexis.specs.Lexer.{Token}
 use Rattle.syntax.specs.Tree.{Value, Ty, Param, Header, Arg, Call, Document}
 use Rattle.syntax.specs.Tree.Arg.{positional, named}

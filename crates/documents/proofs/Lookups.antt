@@ -6,8 +6,8 @@ use Prim.Native.Nat.{ℕ, _≤_, _<_}
 use native.Mathlib.Nat.{le-refl}
 use native.Mathlib.Omega.{arith}
 use lib.ListN.{length}
+use Rattle.spellings.specs.Comparison.{sameBytes}
 use Rattle.lexis.specs.Lexer.{Token}
-use Rattle.lexis.specs.Words.{sameBytes}
 use Rattle.syntax.specs.Tree.{Call}
 use Rattle.syntax.specs.Parser.{call}
 use Rattle.syntax.specs.Parser.Parse.{ok}

@@ -3,9 +3,9 @@ use Prim.Native.Nat.{ℕ}
 use mathlib.Core.List.{List, [], _∷_, _++_, map, flatMap, flatten}
 use mathlib.Core.Option.{Option, some}
 use mathlib.Core.Option.{none as nothing}
+use Rattle.spellings.specs.Comparison.{sameBytes}
 use Rattle.lexis.specs.Ascii.{ascii}
 use Rattle.lexis.specs.Sizes.{maxInputs, maxOutputs, maxCalls, maxAssigned, maxUses}
-use Rattle.lexis.specs.Words.{sameBytes}
 use Rattle.syntax.specs.Tree.{Header, Call, Document}
 use Rattle.lists.specs.Code as Lists
 use Rattle.lists.specs.Fault.{Fault, fault, faults, starts, unless}

@@ -4,7 +4,6 @@ use crate::code::Code;
 use crate::operation::Operation;
 use crate::operation::code_of;
 use crate::operation::name_of;
-use index::same::same_name;
 use index::token::bytes_at;
 use lexis::limits::Limits;
 use lexis::symbol::Symbol;
@@ -17,6 +16,7 @@ use lists::types::is_tensor;
 use lists::types::kinds_in;
 use lists::types::pairs_in;
 use lists::word::start_at;
+use spellings::same;
 use syntax::Parsed;
 use syntax::list::is_label;
 use syntax::symbol::symbol_at;
@@ -61,7 +61,7 @@ fn is_spelt(ltext: &[u8], ltable: &[u32], ln: usize, words: &[u32], j: usize, w:
     ensures { λ r. ⌜ r ≡ speltAt (now (ltext .entry)) (now (ltable .entry)) (now (words .entry)) j (now (w .entry)) ⌝ }
 {
     let name = bytes_at(ltext, ltable, ln, name_of(words, j));
-    same_name(name, w)
+    same(name, w)
 }
 
 // The number of the first parameter of the operation that is spelt w, or their count.

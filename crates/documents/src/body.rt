@@ -7,19 +7,19 @@ use crate::records::record;
 use crate::wiring::Tally;
 use crate::wiring::assigned;
 use crate::wiring::used;
-use index::same::same_name;
 use index::token::bytes_at;
 use lexis::limits::Limits;
 use lexis::symbol::Symbol;
 use lists::best::Best;
 use lists::word::start_at;
+use spellings::same;
 ghost use mathlib.Core.Path.{_≡_};
 ghost use mathlib.Core.List.{List, []};
 ghost use Prim.Native.Nat.{_+_, _<_, _≤_};
 ghost use lib.ListN.{length};
+ghost use Rattle.spellings.specs.Comparison.{sameBytes};
 ghost use Rattle.lexis.specs.Ascii.{ascii};
 ghost use Rattle.lexis.specs.Sizes.{maxText, maxTokens, maxBrackets};
-ghost use Rattle.lexis.specs.Words.{sameBytes};
 ghost use Rattle.lexis.specs.Lexer.{Token};
 ghost use Rattle.syntax.specs.Tree.{Header, Call};
 ghost use Rattle.syntax.specs.Parser.{call};
@@ -50,7 +50,7 @@ fn is_external(text: &[u8], table: &[u32], n: usize, i: usize) -> bool
     if n <= i {
         return false;
     }
-    same_name(bytes_at(text, table, n, i), b"external")
+    same(bytes_at(text, table, n, i), b"external")
 }
 
 // Where the token at place i starts; 0 beyond the last.

@@ -7,18 +7,18 @@ use crate::header::listed;
 use crate::header::unassigned;
 use crate::wiring::Tally;
 use crate::wiring::Word;
-use index::same::same_name;
 use index::token::bytes_at;
 use lexis::limits::Limits;
 use lists::best::Best;
 use lists::word::start_at;
+use spellings::same;
 ghost use mathlib.Core.Path.{_≡_};
 ghost use mathlib.Core.List.{List, []};
 ghost use Prim.Native.Nat.{_<_, _≤_};
 ghost use lib.ListN.{length};
+ghost use Rattle.spellings.specs.Comparison.{sameBytes};
 ghost use Rattle.lexis.specs.Ascii.{ascii};
 ghost use Rattle.lexis.specs.Sizes.{maxText, maxTokens};
-ghost use Rattle.lexis.specs.Words.{sameBytes};
 ghost use Rattle.syntax.specs.Tree.{Header, Document};
 ghost use Rattle.syntax.specs.Parser.{parseDocument};
 ghost use Rattle.syntax.specs.Parser.Parse.{ok};
@@ -52,7 +52,7 @@ fn bad_version(text: &[u8], table: &[u32], n: usize) -> Best
     if n <= 1 {
         return Best::none();
     }
-    let right = same_name(bytes_at(text, table, n, 1), b"1.0");
+    let right = same(bytes_at(text, table, n, 1), b"1.0");
     Best::fault_if(!right, Code::WRONG_VERSION, start_at(table, 1))
 }
 

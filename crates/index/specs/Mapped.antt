@@ -5,7 +5,7 @@ use mathlib.Core.Bool.{cond}
 use mathlib.Core.List.{List}
 use lib.Dec.{eqb}
 use lib.ListN.{set}
-use Rattle.lexis.specs.Words.{sameBytes}
+use Rattle.spellings.specs.Comparison.{sameBytes}
 use Rattle.index.specs.Found.{bytesAt, foundIn}
 use Rattle.index.specs.Layout.{nameWords, wordPlace, wordAt}
 use Rattle.index.specs.Indexed.{Indexed}

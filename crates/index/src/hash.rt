@@ -1,26 +1,11 @@
 // The hash of a spelling, four bytes at a turn.
 use crate::layout::Layout;
+use spellings::packed::four;
+use spellings::packed::wide;
 ghost use mathlib.Core.Path.{_≡_};
-ghost use Prim.Native.Nat.{_+_, _-_, _/_, _<_, _≤_};
+ghost use Prim.Native.Nat.{_-_, _/_, _<_};
 ghost use lib.ListN.{length};
-ghost use Rattle.index.specs.Hash.{fourAt, mixed, mixes, shortHash, hashOf, chainOf};
-
-// A byte as a term of a number.
-fn wide(b: u8) -> u64
-    ensures { λ r. ⌜ r ≡ b ⌝ }
-    ensures { λ r. ⌜ r < 256 ⌝ }
-{
-    b as u64
-}
-
-// Four bytes as one number.
-pub fn four(w: &[u8], i: usize) -> u64
-    requires { ⌜ i + 4 ≤ length (now w) ⌝ }
-    ensures { λ r. ⌜ r ≡ fourAt (now (w .entry)) i ⌝ }
-    ensures { λ r. ⌜ r < 4294967296 ⌝ }
-{
-    wide(w[i]) + wide(w[i + 1]) * 256 + wide(w[i + 2]) * 65536 + wide(w[i + 3]) * 16777216
-}
+ghost use Rattle.index.specs.Hash.{mixed, mixes, shortHash, hashOf, chainOf};
 
 // One number more.
 fn mix(h: u64, v: u64) -> u64

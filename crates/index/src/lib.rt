@@ -3,7 +3,6 @@
 mod chain;
 mod hash;
 pub mod layout;
-pub mod same;
 pub mod token;
 
 use crate::chain::number;

@@ -9,8 +9,8 @@ use lib.Dec.{eqb}
 use lib.ListN.{take, drop, getD}
 use lib.Seq.{getD-take, getD-drop}
 use borrow.Author.Tests.{ne-eqb, eqb-false}
+use Rattle.spellings.specs.Comparison.{sameBytes}
 use Rattle.lexis.specs.Kind.{IsKind}
-use Rattle.lexis.specs.Words.{sameBytes}
 use Rattle.lexis.specs.Symbol.{Terminal, terminals, symbolIn, operatorSymbol, symbolOf}
 use Rattle.lexis.proofs.Words.{same-firsts}
 

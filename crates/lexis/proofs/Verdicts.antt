@@ -6,10 +6,11 @@ use Prim.Native.Nat.{ℕ, _≤_}
 use native.Mathlib.Omega.{arith}
 use lib.Dec.{eqb, leb}
 use lib.ListN.{take, getD}
+use Rattle.spellings.specs.Comparison.{sameBytes}
 use Rattle.lexis.specs.Sizes.{maxName, maxString, maxNumber}
 use Rattle.lexis.specs.Kind.{IsKind}
 use Rattle.lexis.specs.Bytes.{classOf, isNamePart, isContent, spanLen}
-use Rattle.lexis.specs.Words.{Word, words, sameBytes, kindIn}
+use Rattle.lexis.specs.Words.{Word, words, kindIn}
 use Rattle.lexis.specs.Number.{partsOf, partsLen, sticks, inRange}
 use Rattle.lexis.specs.Lexeme.{numberLexeme, wordLexeme, stringLexeme, isPair, isArrow, markLexeme, lexeme}
 use Rattle.lexis.specs.declared.token.Lexeme.{Lexeme}

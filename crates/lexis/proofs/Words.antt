@@ -7,7 +7,8 @@ use native.Mathlib.Omega.{arith}
 use lib.Dec.{eqb}
 use lib.ListN.{length, getD}
 use borrow.Author.Tests.{ne-eqb, eqb-false}
-use Rattle.lexis.specs.Words.{Word, words, sameBytes, kindIn}
+use Rattle.spellings.specs.Comparison.{sameBytes}
+use Rattle.lexis.specs.Words.{Word, words, kindIn}
 
 unfoldable pub keep : Bool → Word → List Word → List Word
 keep true x xs = x ∷ xs

@@ -2,13 +2,13 @@
 use crate::kind::Kind;
 use crate::token::byte_at;
 use crate::wide;
-use crate::word::same;
+use spellings::same;
 ghost use mathlib.Core.Path.{_≡_};
 ghost use mathlib.Core.Bool.{cond};
 ghost use Prim.Native.Nat.{_-_, _/_, _<_, _≤_};
 ghost use lib.ListN.{length, take, drop};
+ghost use Rattle.spellings.specs.Comparison.{sameBytes};
 ghost use Rattle.lexis.specs.Kind.{IsKind};
-ghost use Rattle.lexis.specs.Words.{sameBytes};
 ghost use Rattle.lexis.specs.Symbol.{other, keywordSymbol, symbolOf};
 
 // A syntactic character is numbered by its first byte, any other terminal by a number that is no byte.

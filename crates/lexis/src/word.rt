@@ -1,28 +1,13 @@
 // The words with a meaning of their own.
 use crate::kind::Kind;
+use spellings::same;
 ghost use mathlib.Core.Path.{_≡_};
 ghost use mathlib.Core.Bool.{cond};
 ghost use lib.ListN.{getD};
+ghost use Rattle.spellings.specs.Comparison.{sameBytes};
 ghost use Rattle.lexis.specs.Ascii.{byte};
 ghost use Rattle.lexis.specs.Kind.{name};
-ghost use Rattle.lexis.specs.Words.{sameBytes, kindOfWord};
-
-// Whether two texts are the same, byte by byte.
-pub fn same(a: &[u8], b: &[u8]) -> bool
-    ensures { λ r. ⌜ r ≡ sameBytes (now (a .entry)) (now (b .entry)) ⌝ }
-{
-    if a.len() != b.len() {
-        return false;
-    }
-    let mut i = 0;
-    while i < a.len() {
-        if a[i] != b[i] {
-            return false;
-        }
-        i += 1;
-    }
-    true
-}
+ghost use Rattle.lexis.specs.Words.{kindOfWord};
 
 // `kind` where w is spelt so; a name where not.
 fn kind_if(w: &[u8], spelling: &[u8], kind: u8) -> u8

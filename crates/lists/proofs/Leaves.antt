@@ -9,9 +9,9 @@ use lib.Dec.{eqb}
 use lib.ListN.{getD, take, drop}
 use lib.Seq.{getD-take, getD-drop}
 use borrow.Author.Tests.{eq-eqb, ne-eqb, eqb-true, lt-ltb}
+use Rattle.spellings.specs.Comparison.{sameBytes}
 use Rattle.lexis.specs.Ascii.{ascii}
 use Rattle.lexis.specs.Kind as Kind
-use Rattle.lexis.specs.Words.{sameBytes}
 use Rattle.lexis.specs.Number.{valueFrom, signed}
 use Rattle.lexis.specs.Lexer.{Token}
 use Rattle.lexis.specs.Symbol.{terminals, symbolIn, keywordSymbol, operatorSymbol, symbolOf, symOf, isLiteral, other, aName, aNumber, aLiteral}

@@ -8,13 +8,13 @@ use native.Mathlib.Omega.{arith}
 use lib.Dec.{eqb}
 use lib.ListN.{length, set, replicate}
 use borrow.Author.Tests.{eq-eqb, ne-eqb}
-use Rattle.lexis.specs.Words.{sameBytes}
+use Rattle.spellings.specs.Comparison.{sameBytes}
+use Rattle.spellings.proofs.Spellings.{same-is}
 use Rattle.lexis.specs.Lexer.{Token}
 use Rattle.syntax.specs.Tree.{Header}
 use Rattle.syntax.specs.Table.{tokenAt}
 use Rattle.index.specs.Layout.{nameWords, wordPlace, wordAt}
 use Rattle.index.specs.Mapped.{EnteredAt, both, changed, Enters, LooksUp}
-use Rattle.index.proofs.Spellings.{same-is}
 use Rattle.index.proofs.Theorems.{empty-mapped, mapped-as, word-placed, first-set, second-set}
 use Rattle.lists.specs.Names.{isAmong}
 use Rattle.lists.specs.Found.{found}

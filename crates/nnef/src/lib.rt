@@ -1,7 +1,9 @@
 // The operations under their C names.
 use lexis::Answer;
+use spellings::Compared;
 ghost use mathlib.Core.Path.{_≡_};
 ghost use lib.ListN.{length};
+ghost use Rattle.spellings.specs.Comparison.{comparison, wordsOf};
 ghost use Rattle.lexis.specs.Answer.{tokensAnswer, tokensTable};
 ghost use Rattle.canonical.specs.Answer.{canonRoom, written, canonAnswer, outputAfter};
 ghost use Rattle.lists.specs.Answer.{declarationsAnswer, workAfter};
@@ -80,4 +82,11 @@ pub extern "C" fn nnef_order(
     ensures { λ r. ⌜ now (work2 .exit) ≡ workAfter r (now (work2 .entry)) ⌝ }
 {
     orders::order(list, document, work1, work2, order)
+}
+
+#[no_mangle]
+pub extern "C" fn nnef_compare(a: &[u8], b: &[u8]) -> Compared
+    ensures { λ r. ⌜ r ≡ wordsOf (comparison (now (a .entry)) (now (b .entry))) ⌝ }
+{
+    spellings::compare_words(a, b)
 }

@@ -4,8 +4,8 @@ use mathlib.Core.Path.{_≡_, refl}
 use mathlib.Core.List.{[], _∷_}
 use Prim.Native.Nat.{ℕ}
 use Prim.Native.String.{String}
+use Rattle.spellings.specs.Comparison.{sameBytes}
 use Rattle.lexis.specs.Ascii.{ascii}
-use Rattle.lexis.specs.Words.{sameBytes}
 use Rattle.lexis.specs.Lexer.{Token}
 use Rattle.lexis.specs.Symbol.{symOf, symbolOf, terminals, symbolIn, keywordSymbol, arrow, aName, aNumber, version, graph, fragment}
 use Rattle.lexis.specs.Symbol.{scalarWord}

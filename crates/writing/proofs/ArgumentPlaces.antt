@@ -12,8 +12,8 @@ use borrow.Author.Tests.{eq-eqb, ne-eqb, eqb-true, eqb-false, lt-ltb, leb-true, 
 use lib.Dec.{eqb, leb, ltb}
 use lib.ListN.{length, getD, set, replicate}
 use lib.Seq.{getD-set-same, getD-set-other}
+use Rattle.spellings.specs.Comparison.{sameBytes}
 use Rattle.lexis.specs.Sizes.{maxBrackets}
-use Rattle.lexis.specs.Words.{sameBytes}
 use Rattle.lexis.specs.Lexer.{Token}
 use Rattle.lexis.specs.Symbol.{comma, rightRound}
 use Rattle.syntax.specs.Tree.{Value, Param, Arg}

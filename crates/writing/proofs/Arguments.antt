@@ -10,7 +10,7 @@ use native.Mathlib.Omega.{arith}
 use borrow.Author.Tests.{eq-eqb, ne-eqb}
 use lib.Dec.{eqb}
 use lib.ListN.{drop}
-use Rattle.lexis.specs.Words.{sameBytes}
+use Rattle.spellings.specs.Comparison.{sameBytes}
 use Rattle.syntax.specs.Tree.{Value, Param, Arg}
 use Rattle.syntax.specs.Tree.Arg.{positional, named}
 use Rattle.lists.specs.Fault.{Fault, fault, unless}

@@ -4,8 +4,8 @@ use mathlib.Core.Path.{_≡_, refl, ap}
 use mathlib.Core.Bool.{Bool, true, false, cond}
 use mathlib.Core.List.{List, [], _∷_}
 use mathlib.Core.Option.{some}
+use Rattle.spellings.specs.Comparison.{sameBytes}
 use Rattle.lexis.specs.Lexer.{Token}
-use Rattle.lexis.specs.Words.{sameBytes}
 use Rattle.syntax.specs.Tree.{Header}
 use Rattle.lists.specs.Found.{operationOf, find}
 use Rattle.documents.proofs.Sought.{same-is}

@@ -10,12 +10,13 @@ use lib.Dec.{leb, eqb}
 use lib.ListN.{length, length-take, getD, take, drop}
 use lib.Seq.{take-take}
 use borrow.Author.Tests.{leb-true, eqb-true}
+use Rattle.spellings.specs.Comparison.{sameBytes}
 use Rattle.lexis.specs.Sizes.{maxName, maxNumber, maxString}
 use Rattle.lexis.specs.Ascii.{ascii}
 use Rattle.lexis.specs.Class as Class
 use Rattle.lexis.specs.Kind as Kind
 use Rattle.lexis.specs.Bytes.{classOf, within, among, isDigit, isNamePart, isContent, spanLen}
-use Rattle.lexis.specs.Words.{Word, words, sameBytes, kindIn, kindOfWord}
+use Rattle.lexis.specs.Words.{Word, words, kindIn, kindOfWord}
 use Rattle.lexis.specs.Number.{partsOf, partsLen, sticks, inRange}
 use Rattle.lexis.specs.Lexeme.{numberLexeme, wordLexeme, stringLexeme, isPair, isArrow, markLexeme, lexeme}
 use Rattle.lexis.specs.Lexer.{Token, accepted, lex, Placed, next}

@@ -7,9 +7,9 @@ use mathlib.Core.Logic.{_↔_}
 use mathlib.Core.List.{List, [], _∷_, _++_, flatMap, List·Memᴰ}
 use mathlib.Core.Option.{some}
 use lib.ListN.{length}
+use Rattle.spellings.specs.Comparison.{sameBytes}
 use Rattle.lexis.specs.Ascii.{ascii}
 use Rattle.lexis.specs.Sizes.{maxBrackets, maxInputs, maxOutputs, maxCalls, maxAssigned, maxUses}
-use Rattle.lexis.specs.Words.{sameBytes}
 use Rattle.syntax.specs.Tree.{Ty, Tys, Param, Header}
 use Rattle.syntax.specs.Tree.Ty.{tupleOf}
 use Rattle.syntax.specs.Tree.Tys.{a-type}

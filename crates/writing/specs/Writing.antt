@@ -8,10 +8,10 @@ use mathlib.Core.Option.{Option, some}
 use mathlib.Core.Option.{none as nothing}
 use lib.Dec.{eqb, leb, ltb}
 use lib.ListN.{length, set, drop, getD}
+use Rattle.spellings.specs.Comparison.{sameBytes}
 use Rattle.lexis.specs.Ascii.{ascii, byte}
 use Rattle.lexis.specs.Bytes.{among, isDigit, spanLen, classTable}
 use Rattle.lexis.specs.Sizes.{maxText, maxTokens, maxNumber, maxBrackets}
-use Rattle.lexis.specs.Words.{sameBytes}
 use Rattle.lexis.specs.Kind as Kind
 use Rattle.lexis.specs.Number.{partsOf, valueFrom, inRange}
 use Rattle.lexis.specs.Lexer.{Token}

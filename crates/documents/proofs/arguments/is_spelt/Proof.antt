@@ -2,7 +2,7 @@
 use mathlib.Core.Path.{ap, _∙_}
 use Prim.Native.Nat.{ℕ}
 use mathlib.Core.List.{List}
-use Rattle.lexis.specs.Words.{sameBytes}
+use Rattle.spellings.specs.Comparison.{sameBytes}
 use Rattle.syntax.specs.Table.{tokenAt}
 use borrow.Author.Needs.{needs}
 use Rattle.documents.proofs.arguments.is_spelt.Statement.{statement}
@@ -16,8 +16,8 @@ bytes-at-requires c κs =
     let s = c .before .before .before .before .before in
     (s .pre .0, rw (c .name-of .ensures) (s .pre .1 .1))
 
-same-name-requires : tie.Need-same-name-requires
-same-name-requires c κs = search needs
+same-requires : tie.Need-same-requires
+same-requires c κs = search needs
 
 returns : tie.Need-returns
 returns c =
@@ -26,8 +26,8 @@ returns c =
     let s = n .before .before .before .before .before in
     let a = s .args in
     let name = b .bytes-at .ensures ∙ ap (λ (i : ℕ). tokenAt (a .ltext .now) (a .ltable .now) i .bytes) (n .name-of .ensures) in
-    c .same-name .ensures ∙ ap (λ (z : List ℕ). sameBytes z (a .w .now)) name
+    c .same .ensures ∙ ap (λ (z : List ℕ). sameBytes z (a .w .now)) name
 
 pub is-spelt-spec : {M : Type 1} → statement M
 is-spelt-spec =
-    tie.close (tie.spec name-of-requires bytes-at-requires same-name-requires returns)
+    tie.close (tie.spec name-of-requires bytes-at-requires same-requires returns)

@@ -1,9 +1,9 @@
 use mathlib.Core.Path.{refl, ap, _∙_}
 use Prim.Native.Nat.{ℕ}
 use lib.Dec.{eqb}
+use Rattle.spellings.specs.Comparison.{sameBytes}
 use Rattle.lexis.specs.Ascii.{ascii}
 use Rattle.lexis.specs.Sizes.{maxCalls}
-use Rattle.lexis.specs.Words.{sameBytes}
 use Rattle.lexis.specs.Lexer.{Token}
 use Rattle.syntax.specs.Table.{tokenAt}
 use Rattle.lists.specs.Code as Lists

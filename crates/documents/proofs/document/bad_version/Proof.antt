@@ -3,8 +3,8 @@ use mathlib.Core.Bool.{Bool, not}
 use mathlib.Core.List.{List}
 use Prim.Native.Nat.{ℕ}
 use native.Mathlib.Omega.{arith}
+use Rattle.spellings.specs.Comparison.{sameBytes}
 use Rattle.lexis.specs.Ascii.{ascii}
-use Rattle.lexis.specs.Words.{sameBytes}
 use Rattle.syntax.specs.Table.{tokenAt}
 use Rattle.lists.specs.Fault.{first, fault}
 use Rattle.lists.specs.Walks.{when}
@@ -22,11 +22,11 @@ returns c = λ h. absurd (omega (arith, h, c .before .if1 .taken))
 bytes-at-requires : tie.Need-bytes-at-requires
 bytes-at-requires c κs = search needs
 
-slice-aggregate-same-name : tie.Need-slice-aggregate-same-name
-slice-aggregate-same-name c = search needs
+slice-aggregate-same : tie.Need-slice-aggregate-same
+slice-aggregate-same c = search needs
 
-same-name-requires : tie.Need-same-name-requires
-same-name-requires c κs = search needs
+same-requires : tie.Need-same-requires
+same-requires c κs = search needs
 
 start-at-requires : tie.Need-start-at-requires
 start-at-requires c κs = search needs
@@ -42,7 +42,7 @@ returns-2 c =
     let read = compared .before .before in
     let a = read .before .before .before .before .args in
     let t = tokenAt (a .text .now) (a .table .now) 1 in
-    let same = compared .same-name .ensures ∙ ap (λ (w : List ℕ). sameBytes w (ascii "1.0")) (read .bytes-at .ensures) in
+    let same = compared .same .ensures ∙ ap (λ (w : List ℕ). sameBytes w (ascii "1.0")) (read .bytes-at .ensures) in
     c .fault-if .ensures
     ∙ ap₂ (λ (x : Bool) (p : ℕ). first (when (not x) (fault 11 p))) same (c .before .start-at .ensures)
     ∙ ap first (when-not (sameBytes (t .bytes) (ascii "1.0")) (fault 11 (t .start)))
@@ -54,8 +54,8 @@ bad-version-spec =
     none-requires
     returns
     bytes-at-requires
-    slice-aggregate-same-name
-    same-name-requires
+    slice-aggregate-same
+    same-requires
     start-at-requires
     fault-if-requires
     returns-2)
