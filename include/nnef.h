@@ -12,12 +12,12 @@
  * call ends, whatever bytes it is given, and touches nothing beyond the
  * lengths it is given.
  *
- * Every buffer is a pointer and a length, in bytes for texts and outputs, in
- * words of 32 bits for tables, work areas and orders. With length 0 the pointer
- * may be NULL; nothing is read or written through it. Texts and orders are only
- * read, and they may overlap each other or be one buffer. Tables, work areas and
- * outputs are written to, and none of them may overlap any other buffer of the
- * call.
+ * Every buffer is a pointer and a length, in bytes for texts, names and outputs,
+ * in words of 32 bits for tables, work areas and orders. With length 0 the
+ * pointer may be NULL; nothing is read or written through it. Texts, names and
+ * orders are only read, and they may overlap each other or be one buffer.
+ * Tables, work areas and outputs are written to, and none of them may overlap
+ * any other buffer of the call.
  */
 #ifndef NNEF_H
 #define NNEF_H
@@ -30,7 +30,7 @@ extern "C" {
 #endif
 
 /* The version of the library that this header belongs to. */
-#define NNEF_LIBRARY_VERSION "2.2.0"
+#define NNEF_LIBRARY_VERSION "2.3.0"
 
 /* Sizes: the most that there may be. */
 #define NNEF_TEXT_BYTES 16384 /* bytes of a text */
@@ -61,13 +61,14 @@ extern "C" {
 
 /*
  * Bytes of stack that a call takes at most: measured on the longest and deepest
- * texts, and rounded up.
+ * texts, and on names, and rounded up.
  */
 #define NNEF_TOKENS_STACK 53248
 #define NNEF_DECLARATIONS_STACK 49152
 #define NNEF_CHECK_STACK 86016
 #define NNEF_CANON_STACK 106496
 #define NNEF_ORDER_STACK 86016
+#define NNEF_COMPARE_STACK 4096
 
 /* What an operation answers with. */
 typedef struct nnef_answer {
@@ -244,6 +245,27 @@ nnef_answer nnef_order(const uint8_t *list, size_t list_len,
                        uint32_t *list_work, size_t list_work_len,
                        uint32_t *document_work, size_t document_work_len,
                        const uint32_t *order, size_t order_len);
+
+/* What a comparison of two names says. */
+typedef struct nnef_comparison {
+    uint32_t same;  /* 1 if the names are the same, byte by byte, else 0 */
+    uint32_t pairs; /* the pairs of bytes that were compared to tell */
+} nnef_comparison;
+
+/*
+ * Compares two names: first their lengths, then their last bytes, then the
+ * others from the front. The operations compare names by it.
+ *
+ * A name may be any bytes, and have any length, also 0. Nothing is refused and
+ * nothing is written.
+ *
+ * The number of pairs is exact: none if the lengths differ; one if the last
+ * bytes differ; else one more for each pair from the front through the first
+ * that differs; for equal names their length. One above 4294967295 is given as
+ * 4294967295.
+ */
+nnef_comparison nnef_compare(const uint8_t *a, size_t a_len,
+                             const uint8_t *b, size_t b_len);
 
 /*
  * For messages to people. These four are plain C, in this header alone, and

@@ -5,7 +5,7 @@
 #![allow(dead_code)]
 
 /// The version of the library that this module belongs to.
-pub const LIBRARY_VERSION: &str = "2.2.0";
+pub const LIBRARY_VERSION: &str = "2.3.0";
 
 // Sizes: the most that there may be.
 pub const TEXT_BYTES: usize = 16_384;
@@ -40,6 +40,7 @@ pub const DECLARATIONS_STACK: usize = 49_152;
 pub const CHECK_STACK: usize = 86_016;
 pub const CANON_STACK: usize = 106_496;
 pub const ORDER_STACK: usize = 86_016;
+pub const COMPARE_STACK: usize = 4_096;
 
 // Codes.
 pub const ACCEPTED: u32 = 0;
@@ -100,6 +101,21 @@ impl Answer {
     }
 }
 
+/// What a comparison of two names says: whether they are the same, 1 or 0, and how
+/// many pairs of bytes were compared to tell.
+#[repr(C)]
+#[derive(Clone, Copy, Debug, PartialEq, Eq)]
+pub struct Comparison {
+    pub same: u32,
+    pub pairs: u32,
+}
+
+impl Comparison {
+    pub fn numbers(self) -> [u32; 2] {
+        [self.same, self.pairs]
+    }
+}
+
 #[link(name = "nnef", kind = "static")]
 unsafe extern "C" {
     fn nnef_tokens(text: *const u8, text_len: usize, table: *mut u32, table_len: usize) -> Answer;
@@ -147,6 +163,7 @@ unsafe extern "C" {
         order: *const u32,
         order_len: usize,
     ) -> Answer;
+    fn nnef_compare(a: *const u8, a_len: usize, b: *const u8, b_len: usize) -> Comparison;
 }
 
 /// Splits a text into tokens.
@@ -238,4 +255,11 @@ pub fn order(
             order.len(),
         )
     }
+}
+
+/// Compares two names: first their lengths, then their last bytes, then the others
+/// from the front.
+pub fn compare(a: &[u8], b: &[u8]) -> Comparison {
+    // SAFETY: as for `tokens`.
+    unsafe { nnef_compare(a.as_ptr(), a.len(), b.as_ptr(), b.len()) }
 }

@@ -86,6 +86,27 @@ static int judges_orders(void)
         && right[0] == 0 && right[1] == 1 && early[0] == 1;
 }
 
+static int compares(const char *a, const char *b, uint32_t same, uint32_t pairs)
+{
+    nnef_comparison c = nnef_compare((const uint8_t *)a, strlen(a), (const uint8_t *)b, strlen(b));
+    return c.same == same && c.pairs == pairs;
+}
+
+/* Lengths, then last bytes, then the others from the front; names without bytes may be NULL; one buffer may hold both. */
+static int compares_names(void)
+{
+    static const char name[] = "abababab";
+    const uint8_t *bytes = (const uint8_t *)name;
+    nnef_comparison none = nnef_compare(NULL, 0, NULL, 0), one = nnef_compare(NULL, 0, bytes, 1);
+    nnef_comparison moved = nnef_compare(bytes, 6, bytes + 2, 6), cut = nnef_compare(bytes, 6, bytes, 5);
+    return compares("", "", 1, 0) && compares("a", "a", 1, 1) && compares("a", "b", 0, 1)
+        && compares("scale", "scales", 0, 0) && compares("star_1", "star_2", 0, 1)
+        && compares("external", "internal", 0, 2) && compares("external", "externol", 0, 8)
+        && compares("external", "external", 1, 8) && compares(name, name, 1, 8)
+        && none.same == 1 && none.pairs == 0 && one.same == 0 && one.pairs == 0
+        && moved.same == 1 && moved.pairs == 6 && cut.same == 0 && cut.pairs == 0;
+}
+
 /* A list and a document may overlap, here in a comment that ends the one and begins the other, or be one buffer. */
 static int takes_overlap(void)
 {
@@ -156,6 +177,7 @@ int main(void)
         && answers(canon_of(DOCUMENT, NNEF_WORK_WORDS, NNEF_TEXT_BYTES), NNEF_ACCEPTED, 0, 0, 88)
         && memcmp(out, CANONICAL, sizeof CANONICAL) == 0
         && judges_orders()
+        && compares_names()
         && names_codes()
         && finds_places()
         && takes_null()

@@ -8,8 +8,8 @@
 //! sluicegnome = { path = "../sluicegnome/bindings/rust" }
 //! ```
 //!
-//! Every function takes any bytes, ends, and answers with what it made or with the first fault, a [`Refusal`]. Nothing is kept between
-//! calls, and any number of threads may call at the same time; a call takes up to 120 KB of stack.
+//! Every function takes any bytes, ends, and answers with what it made or with the first fault, a [`Refusal`]; [`compare`] refuses nothing.
+//! Nothing is kept between calls, and any number of threads may call at the same time; a call takes up to 120 KB of stack.
 //!
 //! ```
 //! let list = b"fragment external(shape: extent[]) -> (output: tensor)
@@ -28,11 +28,13 @@
 mod raw;
 
 mod codes;
+mod comparison;
 mod place;
 mod records;
 mod refusal;
 
 pub use codes::Code;
+pub use comparison::{compare, Comparison};
 pub use place::{place, Place};
 pub use records::{Call, Checked, Kind, Token, Wire};
 pub use refusal::{Refusal, Text};
