@@ -8,13 +8,22 @@ use std::hint::black_box;
 pub struct Counter;
 
 impl Measure for Counter {
-    fn measure<I: ?Sized, L: ?Sized>(&mut self, sides: &Sides<I, L>, input: &I, lent: &mut L) {
+    fn measure<I: ?Sized, L: ?Sized, const N: usize>(
+        &mut self,
+        sides: &Sides<I, L, N>,
+        input: &I,
+        lent: &mut L,
+    ) {
         counted(sides.library, input, lent);
         counted(sides.reference, input, lent);
     }
 }
 
 #[inline(never)]
-fn counted<I: ?Sized, L: ?Sized>(operation: Operation<I, L>, input: &I, lent: &mut L) {
+fn counted<I: ?Sized, L: ?Sized, const N: usize>(
+    operation: Operation<I, L, N>,
+    input: &I,
+    lent: &mut L,
+) {
     black_box(operation(black_box(input), black_box(lent)));
 }

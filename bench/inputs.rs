@@ -30,6 +30,22 @@ pub fn texts() -> Vec<(&'static str, Vec<u8>)> {
     ]
 }
 
+/// The pairs of names for `compare`, with names for them.
+pub fn names() -> Vec<(&'static str, [Vec<u8>; 2])> {
+    let pair = |what, a: &str, b: &str| (what, [a.as_bytes().to_vec(), b.as_bytes().to_vec()]);
+    let long = "n".repeat(64);
+    let late = format!("{}mn", "n".repeat(62));
+    vec![
+        pair("unequal lengths", "match_window", "match_windows"),
+        pair("unequal last bytes", "match_window", "match_winner"),
+        pair("unequal first bytes", "match_window", "patch_window"),
+        pair("equal, short", "norm", "norm"),
+        pair("equal, usual", "match_window", "match_window"),
+        pair("equal, longest", &long, &long),
+        pair("unequal last bytes but one", &long, &late),
+    ]
+}
+
 /// The pairs for `check`, `canon` and `order`. All but the first two come near a limit:
 /// 16,384 bytes or 4,096 tokens of a text, or 384 calls.
 pub fn inputs() -> Vec<Input> {

@@ -4,7 +4,8 @@
 //! - `time` and a file: times every operation on its inputs, the two sides taking
 //!   turns, and writes a line for each;
 //! - `count`: runs every operation for callgrind to count its instructions;
-//! - `tables`, a unit and files: prints the tables of what is in the files.
+//! - `tables`, two units and files: prints the tables of what is in the files. The
+//!   second unit is a thousandth of the first.
 //!
 //! Both sides do the same work on the same lent buffers; for `check`, `canon` and
 //! `order` each clears both work areas, 16,384 words each, in every call.
@@ -21,7 +22,7 @@ mod timing;
 
 use counting::Counter;
 use orders::Ordered;
-use sides::{Lent, Sides, CANON, CHECK, ORDER, TOKENS};
+use sides::{Lent, Sides, CANON, CHECK, COMPARE, ORDER, TOKENS};
 use std::fs;
 use tables::Figures;
 use timing::Timer;
@@ -35,7 +36,12 @@ std::arch::global_asm!(concat!(
 
 /// What looks at both sides on an input, once they agree on it.
 trait Measure {
-    fn measure<I: ?Sized, L: ?Sized>(&mut self, sides: &Sides<I, L>, input: &I, lent: &mut L);
+    fn measure<I: ?Sized, L: ?Sized, const N: usize>(
+        &mut self,
+        sides: &Sides<I, L, N>,
+        input: &I,
+        lent: &mut L,
+    );
 }
 
 fn main() {
@@ -48,7 +54,9 @@ fn main() {
             fs::write(file, timer.lines).expect("the times are written");
         }
         ["count"] => measure_all(&mut Counter),
-        ["tables", unit, ref files @ ..] => tables::print(unit, &mut Figures::of(files)),
+        ["tables", unit, thousandth, ref files @ ..] => {
+            tables::print(unit, thousandth, &mut Figures::of(files))
+        }
         _ => panic!("the arguments are not those of bench/run"),
     }
 }
@@ -78,5 +86,9 @@ fn measure_all(measure: &mut impl Measure) {
         let answer = ORDER.agreed(input.name, &ordered, &mut lent, &mut Lent::new());
         assert_eq!(answer[0], library::ACCEPTED, "{}: refused", input.name);
         measure.measure(&ORDER, &ordered, &mut lent);
+    }
+    for (name, names) in inputs::names() {
+        COMPARE.agreed(name, &names, &mut (), &mut ());
+        measure.measure(&COMPARE, &names, &mut ());
     }
 }

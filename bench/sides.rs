@@ -4,13 +4,13 @@ use crate::inputs::Pair;
 use crate::library::{self, CALL_WORDS, TEXT_BYTES, WIRE_WORDS, WORK_WORDS};
 use crate::orders::Ordered;
 
-/// An operation on an input, with what is lent to it.
-pub type Operation<Input, Lent> = fn(&Input, &mut Lent) -> [u32; 4];
+/// An operation on an input, with what is lent to it, that answers so many numbers.
+pub type Operation<Input, Lent, const N: usize> = fn(&Input, &mut Lent) -> [u32; N];
 
 /// Two sides that do the same.
-pub struct Sides<Input: ?Sized, Lent: ?Sized> {
-    pub library: Operation<Input, Lent>,
-    pub reference: Operation<Input, Lent>,
+pub struct Sides<Input: ?Sized, Lent: ?Sized, const N: usize = 4> {
+    pub library: Operation<Input, Lent, N>,
+    pub reference: Operation<Input, Lent, N>,
 }
 
 pub const TOKENS: Sides<[u8], [u32]> = Sides {
@@ -53,6 +53,12 @@ pub const ORDER: Sides<Ordered, Lent> = Sides {
     },
 };
 
+/// Nothing is lent to a comparison.
+pub const COMPARE: Sides<[Vec<u8>; 2], (), 2> = Sides {
+    library: |[a, b], ()| library::compare(a, b).numbers(),
+    reference: |[a, b], ()| nnef_reference::compare(a, b).numbers(),
+};
+
 /// What `check`, `canon` and `order` are lent.
 #[derive(PartialEq)]
 pub struct Lent {
@@ -74,10 +80,10 @@ impl Lent {
     }
 }
 
-impl<Input: ?Sized, Lent: ?Sized + PartialEq> Sides<Input, Lent> {
+impl<Input: ?Sized, Lent: ?Sized + PartialEq, const N: usize> Sides<Input, Lent, N> {
     /// What both sides answer; they must agree in the answer and in what they
     /// leave in equal buffers.
-    pub fn agreed(&self, name: &str, input: &Input, one: &mut Lent, other: &mut Lent) -> [u32; 4] {
+    pub fn agreed(&self, name: &str, input: &Input, one: &mut Lent, other: &mut Lent) -> [u32; N] {
         let library = (self.library)(input, one);
         let reference = (self.reference)(input, other);
         assert_eq!(library, reference, "{name}: the answers differ");

@@ -1,8 +1,9 @@
 //! The tables of what was measured, in thousands: of nanoseconds or of instructions.
+//! Only that of `compare` is in single ones.
 
 use crate::inputs::{self, Input};
 use crate::library::TABLE_WORDS;
-use crate::sides::{Lent, CHECK, TOKENS};
+use crate::sides::{Lent, CHECK, COMPARE, TOKENS};
 use std::fs;
 
 /// What was measured of both sides.
@@ -80,13 +81,15 @@ fn least(texts: &[String]) -> Vec<Figure> {
     least
 }
 
-/// Prints all tables.
-pub fn print(unit: &str, figures: &mut Figures) {
+/// Prints all tables, that of `compare` in thousandths of the unit.
+pub fn print(unit: &str, thousandth: &str, figures: &mut Figures) {
     println!("In {unit}.\n");
     print_tokens(figures);
     print_pairs(&inputs::inputs(), figures);
     print_growth(figures);
     print_pairs(&[inputs::colliding()], figures);
+    println!("In {thousandth}.\n");
+    print_names(figures);
 }
 
 fn print_tokens(figures: &mut Figures) {
@@ -131,6 +134,30 @@ fn print_pairs(inputs: &[Input], figures: &mut Figures) {
             let [check, canon, order] = [&checks, &canons, &orders].map(|ratios| figure(ratios));
             println!("| {name} | | | | | | {check:.2} | | | | {canon:.2} | | | {order:.2} |");
         }
+    }
+    println!();
+}
+
+/// A row for each pair of names.
+fn print_names(figures: &mut Figures) {
+    println!("| `compare`: names | bytes | pairs | library | reference | ratio |");
+    println!("|---|---|---|---|---|---|");
+    let mut ratios = Vec::new();
+    for (name, names) in inputs::names() {
+        let [_, pairs] = COMPARE.agreed(name, &names, &mut (), &mut ());
+        let [a, b] = names.map(|name| name.len());
+        let bytes = match a == b {
+            true => a.to_string(),
+            false => format!("{a}, {b}"),
+        };
+        let figure = figures.take();
+        let Figure { library, reference } = figure;
+        let ratio = figure.ratio();
+        println!("| {name} | {bytes} | {pairs} | {library:.1} | {reference:.1} | {ratio:.2} |");
+        ratios.push(ratio);
+    }
+    for (name, figure) in ENDS {
+        println!("| {name} | | | | | {:.2} |", figure(&ratios));
     }
     println!();
 }

@@ -24,7 +24,12 @@ pub struct Timer {
 }
 
 impl Measure for Timer {
-    fn measure<I: ?Sized, L: ?Sized>(&mut self, sides: &Sides<I, L>, input: &I, lent: &mut L) {
+    fn measure<I: ?Sized, L: ?Sized, const N: usize>(
+        &mut self,
+        sides: &Sides<I, L, N>,
+        input: &I,
+        lent: &mut L,
+    ) {
         let operations = [sides.library, sides.reference];
         let calls = operations.map(|operation| calls_in_turn(operation, input, lent));
         let mut turn = || [0, 1].map(|side| time_of(operations[side], input, lent, calls[side]));
@@ -45,7 +50,11 @@ impl Measure for Timer {
 }
 
 /// How many calls fill a turn.
-fn calls_in_turn<I: ?Sized, L: ?Sized>(operation: Operation<I, L>, input: &I, lent: &mut L) -> u32 {
+fn calls_in_turn<I: ?Sized, L: ?Sized, const N: usize>(
+    operation: Operation<I, L, N>,
+    input: &I,
+    lent: &mut L,
+) -> u32 {
     let mut calls = 1;
     loop {
         let took = time_of(operation, input, lent, calls) * f64::from(calls);
@@ -57,8 +66,8 @@ fn calls_in_turn<I: ?Sized, L: ?Sized>(operation: Operation<I, L>, input: &I, le
 }
 
 /// The time of a call in nanoseconds, over so many calls.
-fn time_of<I: ?Sized, L: ?Sized>(
-    operation: Operation<I, L>,
+fn time_of<I: ?Sized, L: ?Sized, const N: usize>(
+    operation: Operation<I, L, N>,
     input: &I,
     lent: &mut L,
     calls: u32,

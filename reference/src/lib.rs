@@ -4,6 +4,7 @@
 mod binding;
 mod canonical;
 mod codes;
+mod comparison;
 mod fault;
 mod fitting;
 mod graph;
@@ -26,12 +27,14 @@ use plan::Plan;
 use token::Token;
 use tree::{Document, List};
 
+pub use comparison::{compare, Comparison};
+
 /// The text numbers of answers: none, the operation list or the sole text, and the document.
 const NO_TEXT: u32 = 0;
 const LIST: u32 = 1;
 const DOCUMENT: u32 = 2;
 
-/// The four numbers that every operation answers with.
+/// The four numbers that an operation answers with.
 #[derive(Clone, Copy, Debug, PartialEq, Eq)]
 pub struct Answer {
     /// 0 for acceptance, else the fault's code.
