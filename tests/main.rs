@@ -1,16 +1,17 @@
 //! Compares the library with the reference and with written answers, and
 //! measures its stack.
 //!
-//! Arguments: the number of random texts, and of random pairs of texts
-//! (100000; of families of pairs a tenth), and the seed (1). `--only OPERATION`
-//! runs one part alone, `--case N` of the random cases one alone, `--seed S`
-//! is the seed.
+//! Arguments: the number of random texts, of random pairs of texts and of random
+//! pairs of names (100000; of families of pairs a tenth), and the seed (1).
+//! `--only OPERATION` runs one part alone, `--case N` of the random cases one
+//! alone, `--seed S` is the seed.
 
 #[path = "../include/nnef.rs"]
 mod library;
 
 mod canon;
 mod check;
+mod compare;
 mod lent;
 mod options;
 mod order;
@@ -19,6 +20,7 @@ mod program;
 mod progress;
 mod stack;
 mod tokens;
+mod walled;
 mod written;
 
 use options::Options;
@@ -65,6 +67,7 @@ fn run(operation: &str, options: &Options) -> Total {
         "check" => check::run(options),
         "canon" => canon::run(options),
         "order" => order::run(options),
+        "compare" => compare::run(options),
         _ => stack::run(options.seed),
     }
 }

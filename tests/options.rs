@@ -3,7 +3,7 @@
 use std::ops::Range;
 
 /// The operations that may be run alone.
-pub const OPERATIONS: [&str; 5] = ["tokens", "check", "canon", "order", "stack"];
+pub const OPERATIONS: [&str; 6] = ["tokens", "check", "canon", "order", "compare", "stack"];
 
 pub struct Options {
     count: u64,

@@ -29,6 +29,7 @@ pub fn run(seed: u64) -> Total {
         check_keeps(&mut stack, &mut room, &pairs),
         canon_keeps(&mut stack, &mut room, &pairs),
         order_keeps(&mut stack, &mut room, &pairs),
+        compare_keeps(&mut stack, &pairs),
     ];
     Total {
         written: kept.len(),
@@ -116,6 +117,26 @@ fn order_keeps(stack: &mut Stack, room: &mut Room, pairs: &[Texts]) -> bool {
         })
     });
     keeps("order", taken.max(), library::ORDER_STACK)
+}
+
+/// The texts stand for long names: the same, cut short, and one against the other.
+fn compare_keeps(stack: &mut Stack, pairs: &[Texts]) -> bool {
+    let timed = inputs::names().into_iter().map(|(_, names)| names);
+    let texts = pairs.iter().flat_map(|(list, document)| {
+        let length = list.len().min(document.len());
+        let name = |text: &[u8]| text[..length].to_vec();
+        [
+            [list.clone(), list.clone()],
+            [list.clone(), document.clone()],
+            [name(list), name(document)],
+        ]
+    });
+    let taken = timed.chain(texts).map(|[a, b]| {
+        stack.taken(|| {
+            library::compare(&a, &b);
+        })
+    });
+    keeps("compare", taken.max(), library::COMPARE_STACK)
 }
 
 /// Says what was measured, and whether it is within what is stated.
