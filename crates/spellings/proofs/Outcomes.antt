@@ -10,7 +10,7 @@ use lib.ListN.{length, getD}
 use borrow.Author.Tests.{eqb-true, eqb-false}
 use Rattle.spellings.specs.declared.Comparison.{Comparison}
 use Rattle.spellings.specs.Comparison.{sameBytes, lastByte, pairs, told, comparison, Agree}
-use Rattle.spellings.proofs.Spellings.{same-is}
+use Rattle.spellings.proofs.Spellings.{same-is, same-all}
 use Rattle.spellings.proofs.Pairs.{pairs-lengths, pairs-same, told-lengths, told-last, told-front, told-same}
 
 -- the first difference of two spellings is at place d
@@ -39,16 +39,13 @@ first-difference (x ∷ a) (y ∷ b) e n = go (eqb x y) refl n (first-difference
     go true q m ih = let r = ih m in (suc (r .0), difference-later x y (eqb-true x y q) (r .1))
     go false q m ih = (0, record { within = omega arith; agree = λ j k. absurd (omega arith); differ = eqb-false x y q })
 
-empty-of : (a : List ℕ) → length a ≡ 0 → a ≡ []
-empty-of [] z = refl
-empty-of (x ∷ a) z = absurd (omega arith)
-
 -- unequal last bytes are those of spellings that are not empty
 filled : (a b : List ℕ) → length a ≡ length b → (lastByte a ≡ lastByte b → ⊥) → 0 < length a
 filled [] [] e n = absurd (n refl)
 filled [] (y ∷ b) e n = absurd (omega arith)
 filled (x ∷ a) b e n = omega arith
 
+-- how a comparison ends
 data Outcome (a b : List ℕ) : Comparison → Type 0 where
   lengths : (length a ≡ length b → ⊥) → Outcome a b (told false 0)
   last : length a ≡ length b → (lastByte a ≡ lastByte b → ⊥) → Outcome a b (told false 1)
@@ -97,7 +94,7 @@ module _ (a b : List ℕ) where
   none-of c (lengths n) z = inl n
   none-of c (last e n) z = absurd (omega arith)
   none-of c (front e l d f) z = absurd (omega arith)
-  none-of c (equal e) z = let y = empty-of a z in inr (y, sym e ∙ y)
+  none-of c (equal e) z = let y = same-is a [] (same-all a [] z (λ i l. absurd (omega arith))) in inr (y, sym e ∙ y)
 
   swapped-of : (c : Comparison) → Outcome a b c → c ≡ comparison b a
   swapped-of c (lengths n) = told-lengths b a (λ q. n (sym q))
