@@ -261,8 +261,9 @@ typedef struct nnef_comparison {
  *
  * The number of pairs is exact: none if the lengths differ; one if the last
  * bytes differ; else one more for each pair from the front through the first
- * that differs; for equal names their length. One above 4294967295 is given as
- * 4294967295.
+ * that differs; for equal names their length. It is that of a comparison pair by
+ * pair; the code takes eight at a turn, so it is no measure of time. One above
+ * 4294967295 is given as 4294967295.
  */
 nnef_comparison nnef_compare(const uint8_t *a, size_t a_len,
                              const uint8_t *b, size_t b_len);
