@@ -1,4 +1,6 @@
 // The operation that writes the canonical text of a document.
+#![tactic(auto)]
+
 mod code;
 pub mod program;
 

@@ -1,4 +1,6 @@
 // Documents under an operation list: their rules, and the operation that checks one.
+#![tactic(auto)]
+
 pub mod arguments;
 mod body;
 pub mod calls;

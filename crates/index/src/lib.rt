@@ -1,5 +1,7 @@
 // An index of the names of a text: a map from spellings to two words each. A name is found by its spelling and entered on demand. Names stand at places of
 // a token table; chains by a hash lead from the latest place of a chain to the earliest. The index is lent by the caller.
+#![tactic(auto)]
+
 mod chain;
 mod hash;
 pub mod layout;

@@ -1,4 +1,6 @@
 // The lexer: the bytes of a text into a table of token records.
+#![tactic(auto)]
+
 pub mod class;
 pub mod code;
 mod cursor;

@@ -1,4 +1,6 @@
 // Operation lists: their rules, and the operation that checks one.
+#![tactic(auto)]
+
 pub mod best;
 pub mod code;
 pub mod directory;

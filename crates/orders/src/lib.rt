@@ -1,4 +1,6 @@
 // The operation that checks an order of a document's calls.
+#![tactic(auto)]
+
 mod code;
 
 ghost use Rattle.std.specs.Prelude.{◌≡◌, [], ℕ, ◌+◌, ◌<◌, ◌≤◌, length};

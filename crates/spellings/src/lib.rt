@@ -1,4 +1,6 @@
 // The comparison of two spellings: lengths before bytes, and the last byte before the others. Every comparison of two spellings is this one.
+#![tactic(auto)]
+
 pub mod packed;
 
 ghost use Rattle.std.specs.Prelude.{◌≡◌, ◌<◌, min, length};

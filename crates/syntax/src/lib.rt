@@ -1,4 +1,6 @@
 // The syntax of operation lists and documents: readers over a table of tokens.
+#![tactic(auto)]
+
 mod graph;
 pub mod list;
 mod operations;

@@ -1,4 +1,6 @@
 // The plan of a document and its canonical text, put piece by piece into an output.
+#![tactic(auto)]
+
 mod argument;
 mod call;
 pub mod document;
