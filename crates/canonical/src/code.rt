@@ -1,5 +1,5 @@
 // The codes of a refusal that the canonical text of a document may get.
-#[derive(Drop)]
+#[derive(Clone, Copy)]
 pub struct Code {}
 
 impl Code {

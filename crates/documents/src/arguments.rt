@@ -28,7 +28,7 @@ use syntax::value::{Leaves, value};
 
 // What the arguments before a place amount to: their first fault, the mask of the parameters that they bind, whether none of them is named, how many there
 // are, the parameter after the one bound last, and the place they go on at.
-#[derive(Drop)]
+#[derive(Clone, Copy)]
 pub struct Tally {
     pub best: Best,
     pub bound: u32,
@@ -40,7 +40,7 @@ pub struct Tally {
 
 // What an argument is for: the code of its fault, or 0 and the number of the parameter that it binds; the place of its value; and whether neither it nor an
 // argument before it is named.
-#[derive(Drop)]
+#[derive(Clone, Copy)]
 pub struct Aim {
     pub code: u32,
     pub number: usize,

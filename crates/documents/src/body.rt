@@ -29,7 +29,7 @@ use lists::word::start_at;
 use spellings::same;
 
 // The first fault of the calls before place `at`, and how many calls, identifiers assigned and identifiers used there are.
-#[derive(Drop)]
+#[derive(Clone, Copy)]
 pub struct Walk {
     pub best: Best,
     pub calls: usize,

@@ -1,5 +1,5 @@
 // The codes of a refusal that only the rules of a document may get; 12 and 13 it has in common with lists.
-#[derive(Drop)]
+#[derive(Clone, Copy)]
 pub struct Code {}
 
 impl Code {

@@ -28,7 +28,7 @@ use lists::word::start_at;
 use spellings::same;
 
 // The first fault of a document, and how many calls and uses it has.
-#[derive(Drop)]
+#[derive(Clone, Copy)]
 pub struct Ruled {
     pub best: Best,
     pub calls: usize,

@@ -10,7 +10,7 @@ use crate::calls::find;
 use lexis::symbol::Symbol;
 
 // Places: where the inputs begin and close; where the outputs begin and close; where the body begins and its closing bracket stands.
-#[derive(Drop)]
+#[derive(Clone, Copy)]
 pub struct Graph {
     pub first: usize,
     pub inputs: usize,

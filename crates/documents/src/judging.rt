@@ -15,7 +15,7 @@ use syntax::Parsed;
 use syntax::list::{Item, list};
 
 // The number of the operation of a call, 0 where there is none, its first fault of codes 15 to 20, and the place of the bracket that closes its arguments.
-#[derive(Drop)]
+#[derive(Clone, Copy)]
 pub struct Judged {
     pub op: usize,
     pub best: Best,

@@ -8,7 +8,7 @@ use lists::word::word;
 
 // The number of its first parameter, how many it has, the mask of those without a default, the place of its first result, and the number of the type of
 // its only result.
-#[derive(Drop)]
+#[derive(Clone, Copy)]
 pub struct Operation {
     pub first: usize,
     pub count: usize,

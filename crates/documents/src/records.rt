@@ -5,7 +5,7 @@ ghost use Rattle.documents.specs.Records.{records_words, call_stored, wire_store
 
 use lexis::limits::Limits;
 
-#[derive(Drop)]
+#[derive(Clone, Copy)]
 pub struct Records {}
 
 impl Records {

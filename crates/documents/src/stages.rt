@@ -16,7 +16,7 @@ use lists::list::{Listed, list_stages};
 use syntax::{Syntax, read};
 
 // How many tokens and operations the list has, and how many tokens, calls and uses the document.
-#[derive(Drop)]
+#[derive(Clone, Copy)]
 pub struct Sizes {
     pub list: usize,
     pub operations: usize,
@@ -26,7 +26,7 @@ pub struct Sizes {
 }
 
 // What the stages of both texts come to: their sizes, or a refusal.
-#[derive(Drop)]
+#[derive(Clone, Copy)]
 pub enum Staged {
     Passed(Sizes),
     Stopped(Answer),

@@ -22,7 +22,7 @@ use lists::word::start_at;
 use syntax::symbol::symbol_at;
 
 // The words of a name in the index.
-#[derive(Drop)]
+#[derive(Clone, Copy)]
 pub struct Word {}
 
 impl Word {
@@ -38,7 +38,7 @@ impl Word {
 }
 
 // The first fault of names, and how many names there are.
-#[derive(Drop)]
+#[derive(Clone, Copy)]
 pub struct Tally {
     pub best: Best,
     pub count: usize,

@@ -1,7 +1,7 @@
 // The words of an index: the heads of all chains, and for each place of the token table its link and two words that its name has.
 use lexis::limits::Limits;
 
-#[derive(Drop)]
+#[derive(Clone, Copy)]
 pub struct Layout {}
 
 impl Layout {

@@ -2,7 +2,7 @@
 ghost use Rattle.std.specs.Prelude.{◌≡◌};
 ghost use Rattle.lexis.specs.Bytes.{class_of, class_table};
 
-#[derive(Drop)]
+#[derive(Clone, Copy)]
 pub struct Class {}
 
 impl Class {

@@ -11,7 +11,7 @@ use crate::span::{Run, long_run_end, run_end};
 use crate::token::{Lexeme, byte_at, token_at};
 
 // A token record: kind, start, end after the last byte.
-#[derive(Drop)]
+#[derive(Clone, Copy)]
 pub struct Record {
     pub kind: u8,
     pub start: usize,
@@ -19,7 +19,7 @@ pub struct Record {
 }
 
 // A place in a text, and how many tokens were read before it.
-#[derive(Drop)]
+#[derive(Clone, Copy)]
 pub struct Cursor {
     pub at: usize,
     pub count: usize,
@@ -27,7 +27,7 @@ pub struct Cursor {
 
 // What a cursor finds: a token, a syntactic character of one byte or a part of a gap, and the next cursor; the end of the text; or a
 // fault.
-#[derive(Drop)]
+#[derive(Clone, Copy)]
 pub enum Step {
     Next(Record, Cursor),
     Mark(Cursor),

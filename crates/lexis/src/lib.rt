@@ -34,7 +34,7 @@ use symbol::symbol_of;
 
 // The four numbers of an answer.
 #[repr(C)]
-#[derive(Drop)]
+#[derive(Clone, Copy)]
 pub struct Answer {
     pub code: u32,
     pub text: u32,
@@ -43,7 +43,7 @@ pub struct Answer {
 }
 
 // What the lexer finds: how many tokens there are, or the first fault.
-#[derive(Drop)]
+#[derive(Clone, Copy)]
 pub enum Counted {
     Tokens(u32),
     Fault { code: u32, at: u32 },

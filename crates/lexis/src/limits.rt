@@ -2,7 +2,7 @@
 ghost use Rattle.std.specs.Prelude.{◌≡◌, leb, ltb};
 ghost use Rattle.lexis.specs.Sizes.{max_text, max_tokens, max_name, max_string, max_number, table_words, work_words, call_words, wire_words};
 
-#[derive(Drop)]
+#[derive(Clone, Copy)]
 pub struct Limits {}
 
 impl Limits {

@@ -8,7 +8,7 @@ ghost use Rattle.lexis.specs.Push.{push, push_all};
 use crate::limits::Limits;
 
 // A mantissa without the zeros at its end, and how many those are. A mantissa too large is kept at the cap.
-#[derive(Drop)]
+#[derive(Clone, Copy)]
 pub struct Mantissa {
     pub value: u64,
     pub zeros: usize,

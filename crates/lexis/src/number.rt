@@ -21,7 +21,7 @@ use crate::token::{Lexeme, byte_at};
 const SMALL: u32 = 900;
 
 // The three parts of a number: whole digits, point and fraction, exponent; each a count of bytes.
-#[derive(Drop)]
+#[derive(Clone, Copy)]
 pub struct Parts {
     pub whole: usize,
     pub frac: usize,
@@ -100,7 +100,7 @@ fn sticks_to(classes: &[u8; 256], b: u8) -> bool
 }
 
 // What a number reduces to.
-#[derive(Drop)]
+#[derive(Clone, Copy)]
 pub enum Reduction {
     Number { mantissa: u64, exponent: i32 },
     OutOfRange,
@@ -225,7 +225,7 @@ pub fn reduce(classes: &[u8; 256], w: &[u8]) -> Reduction
 }
 
 // The shape of a number: its parts, or that a letter or a point sticks to it.
-#[derive(Drop)]
+#[derive(Clone, Copy)]
 pub enum Shape {
     Good(Parts),
     Stuck,

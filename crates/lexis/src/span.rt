@@ -7,7 +7,7 @@ use crate::class::{Class, class_of};
 
 // What a run is made of: digits; letters, underscores and digits; what a string between quotes holds; white space; what a comment
 // holds after its sign.
-#[derive(Drop)]
+#[derive(Clone, Copy)]
 pub enum Run {
     Digits,
     NameParts,

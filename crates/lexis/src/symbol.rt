@@ -10,7 +10,7 @@ use crate::wide;
 use spellings::same;
 
 // A syntactic character is numbered by its first byte, any other terminal by a number that is no byte.
-#[derive(Drop)]
+#[derive(Clone, Copy)]
 pub struct Symbol {}
 
 impl Symbol {

@@ -12,7 +12,7 @@ use crate::span::{Run, long_run_end, run_end};
 use crate::word::kind_of_word;
 
 // What stands at the front of a text: a token, or the code of its fault.
-#[derive(Drop)]
+#[derive(Clone, Copy)]
 pub enum Lexeme {
     Token { kind: u8, len: usize },
     Fault(u8),

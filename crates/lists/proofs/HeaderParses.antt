@@ -11,7 +11,7 @@ use borrow.Author.Tests.{eqb-true}
 use Rattle.lexis.specs.Lexer.{Token}
 use Rattle.lexis.specs.Symbol.{sym_of, left_round, right_round, colon, comma, arrow, a_name, fragment}
 use Rattle.syntax.specs.Tree.{Value, Ty, Param, Result, Header}
-use Rattle.syntax.specs.Parser.{Parse, Reader, then, mapped, expect, follow, onward, plain, row, type, default, param, result, header, operations}
+use Rattle.syntax.specs.Parser.{Parse, Reader, then, mapped, expect, follow, onward, plain, row, type, default, param, typed_name, header, operations}
 use Rattle.syntax.specs.Parser.Parse.{ok, bad}
 use Rattle.syntax.specs.Parser.Row.{commas, to_the_end}
 use Rattle.syntax.specs.Parser.Follow.{again, done, neither}
@@ -135,8 +135,8 @@ pub record IsResult (b : ℕ) (ts : List Token) (r : Result) (us : List Token) :
   pub a-colon : sym_of colon ≡ 58
   pub a-type : type b typed ≡ ok r.ty us
 
-pub result_ok : (b : ℕ) (ts : List Token) {r : Result} {us : List Token} → result b ts ≡ ok r us → IsResult b ts r us
-unfolding result
+pub result_ok : (b : ℕ) (ts : List Token) {r : Result} {us : List Token} → typed_name b ts ≡ ok r us → IsResult b ts r us
+unfolding typed_name
 result_ok b ts {r} {us} h =
     let n = then_ok (expect a_name ts) _ h in
     let c = then_ok (expect colon n.left) _ n.then-on in
@@ -167,7 +167,7 @@ pub record IsHeader (b : ℕ) (ts : List Token) (h : Header) (us : List Token) :
   pub the-params : row plain (commas right_round) (param b) listed ≡ ok h.params (sign ∷ second ∷ given)
   pub an-arrow : sym_of sign ≡ arrow
   pub opens-again : sym_of second ≡ left_round
-  pub the-results : row plain (commas right_round) (result b) given ≡ ok h.results us
+  pub the-results : row plain (commas right_round) (typed_name b) given ≡ ok h.results us
 
 pub header_ok : (b : ℕ) (ts : List Token) {h : Header} {us : List Token} → header b ts ≡ ok h us → IsHeader b ts h us
 unfolding header
@@ -178,7 +178,7 @@ header_ok b ts {h} {us} e =
     let p = then_ok (row plain (commas right_round) (param b) o.left) _ o.then-on in
     let a = then_ok (expect arrow p.left) _ p.then-on in
     let q = then_ok (expect left_round a.left) _ a.then-on in
-    let r = mapped-ok _ (row plain (commas right_round) (result b) q.left) q.then-on in
+    let r = mapped-ok _ (row plain (commas right_round) (typed_name b) q.left) q.then-on in
     let f' = expect-ok fragment ts f.one in
     let n' = expect-ok a_name f.left n.one in
     let o' = expect-ok left_round n.left o.one in

@@ -16,7 +16,7 @@ use Rattle.syntax.specs.Grammar.{Leaves, Separated, Spells, IsType, IsTypes, IsR
 use Rattle.syntax.specs.Grammar.Separated.{last, next}
 use Rattle.syntax.specs.Grammar.IsTypes.{last-type, next-type}
 use Rattle.syntax.specs.Grammar.IsResult.{a-result}
-use Rattle.syntax.specs.Parser.{Parse, then, row, plain, commas, value, dims, tuple_types, base_step, type, result, left}
+use Rattle.syntax.specs.Parser.{Parse, then, row, plain, commas, value, dims, tuple_types, base_step, type, typed_name, left}
 use Rattle.syntax.specs.Parser.Parse.{ok, bad}
 use Rattle.syntax.proofs.Row.{cond_has}
 use Rattle.syntax.proofs.Symbols.{end-not}
@@ -43,7 +43,7 @@ type-is b ts e = has-read ((type_reads b).each ts) e
 pub left_is : (b : ℕ) (ts : List Token) {v : Value} {us : List Token} → left b ts ≡ ok v us → IsLeft b ts v us
 left_is b ts e = has-read ((left-reads b).each ts) e
 
-pub results-are : (b : ℕ) (ts : List Token) {rs : List Result} {us : List Token} → row plain (commas right_round) (result b) ts ≡ ok rs us
+pub results-are : (b : ℕ) (ts : List Token) {rs : List Result} {us : List Token} → row plain (commas right_round) (typed_name b) ts ≡ ok rs us
     → Separated (IsResult b) right_round ts rs us
 results-are b ts e = has-read ((separated-reads IsResult right_round (result-shrinks b) (result-reads b)).each ts) e
 

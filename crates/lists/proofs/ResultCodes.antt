@@ -8,7 +8,7 @@ use Rattle.lexis.specs.Sizes.{max_brackets}
 use Rattle.lexis.specs.Lexer.{Token}
 use Rattle.lexis.specs.Symbol.{right_round}
 use Rattle.syntax.specs.Tree.{Ty, Result}
-use Rattle.syntax.specs.Parser.{type, result, rest}
+use Rattle.syntax.specs.Parser.{type, typed_name, rest}
 use Rattle.syntax.specs.Parser.Parse.{ok}
 use Rattle.syntax.specs.Table.{toks}
 use Rattle.syntax.proofs.Shrinks.{result-shrinks}
@@ -29,7 +29,7 @@ several-are (r ∷ s ∷ rs) h = refl
 
 module _ (text table : List ℕ) (n from : ℕ) where
   -- its type stands two places on
-  typed : {r : Result} {us : List Token} → result max_brackets (toks text table n from) ≡ ok r us
+  typed : {r : Result} {us : List Token} → typed_name max_brackets (toks text table n from) ≡ ok r us
       → type max_brackets (toks text table n (from + 2)) ≡ ok r.ty us
   typed {r} {us} h =
       let i = result_ok max_brackets (toks text table n from) h in
@@ -41,15 +41,15 @@ module _ (text table : List ℕ) (n from : ℕ) where
       → OfType text table n (from + 2) ty → ((u : Ty) → ty.kinds ≡ kinds_of u → ty.pairs ≡ pairs_of u → ty.tensor ≡ all_tensor u → code ≡ type_code u)
       → code ≡ result_code rs
   unfolding result_code
-  one-is {rs} {us} {ty} {code} h l of coded = go (row_ok right_round (result max_brackets) (result-shrinks max_brackets) (toks text table n from) h) l
+  one-is {rs} {us} {ty} {code} h l of coded = go (row_ok right_round (typed_name max_brackets) (result-shrinks max_brackets) (toks text table n from) h) l
     where
-      by : {r : Result} {ws : List Token} → result max_brackets (toks text table n from) ≡ ok r ws → code ≡ type_code r.ty
+      by : {r : Result} {ws : List Token} → typed_name max_brackets (toks text table n from) ≡ ok r ws → code ≡ type_code r.ty
       by {r} {ws} e = let i = of max_brackets r.ty ws (typed e) in coded r.ty i.kinds i.pairs i.tensor
 
       only : (r : Result) (qs : List Result) → length (r ∷ qs) ≡ 1 → qs ≡ []
       only r [] e = refl
       only r (q ∷ qs) e = absurd (omega arith)
 
-      go : {qs : List Result} → Rowed right_round (result max_brackets) (toks text table n from) us qs → length qs ≡ 1 → code ≡ result_code qs
+      go : {qs : List Result} → Rowed right_round (typed_name max_brackets) (toks text table n from) us qs → length qs ≡ 1 → code ≡ result_code qs
       go (last e s) m = by e
       go (next {a = a} {xs = zs} e s r) m = by e ∙ ap (λ (l : List Result). result_code (a ∷ l)) (sym (only a zs m))

@@ -8,7 +8,7 @@ use lib.ListN.{length}
 use Rattle.lexis.specs.Lexer.{Token}
 use Rattle.lexis.specs.Symbol.{sym_of, right_round, comma}
 use Rattle.syntax.specs.Tree.{Param, Result}
-use Rattle.syntax.specs.Parser.{Parse, Reader, plain, row, param, result}
+use Rattle.syntax.specs.Parser.{Parse, Reader, plain, row, param, typed_name}
 use Rattle.syntax.specs.Parser.Parse.{ok}
 use Rattle.syntax.specs.Parser.Row.{commas}
 use Rattle.syntax.specs.Table.{toks}
@@ -34,7 +34,7 @@ param-takes b ts {p} {us} h =
     two : (k : ℕ) → suc (suc k) ≡ k + 2
     two k = omega arith
 
-pub result-takes : (b : ℕ) (ts : List Token) {r : Result} {us : List Token} → result b ts ≡ ok r us → length us + 3 ≤ length ts
+pub result-takes : (b : ℕ) (ts : List Token) {r : Result} {us : List Token} → typed_name b ts ≡ ok r us → length us + 3 ≤ length ts
 result-takes b ts {r} {us} h =
     let i = result_ok b ts h in
     let l : length ts ≡ length i.typed + 2 = ap (λ (x : List Token). length x) i.is ∙ two (length i.typed) in

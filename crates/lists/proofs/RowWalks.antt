@@ -14,7 +14,7 @@ use Rattle.lexis.specs.Sizes.{max_brackets, max_parameters, max_results}
 use Rattle.lexis.specs.Lexer.{Token}
 use Rattle.lexis.specs.Symbol.{comma}
 use Rattle.syntax.specs.Tree.{Value, Ty, Param}
-use Rattle.syntax.specs.Parser.{type, param, result, rest}
+use Rattle.syntax.specs.Parser.{type, param, typed_name, rest}
 use Rattle.syntax.specs.Parser.Parse.{ok}
 use Rattle.syntax.specs.Table.{start_at, token_at, toks}
 use Rattle.syntax.specs.Inner.{lookahead}
@@ -270,14 +270,14 @@ module _ {text table index : List ℕ} {n k : ℕ} {r : Row} (ready : Ready text
 module _ {text table index index₁ : List ℕ} {n k : ℕ} {r r₁ : Row} (one : OfResult text table index index₁ n k r r₁) where
   pub results-last : (lookahead (toks text table n r₁.at) ≡ comma → ⊥) → OfResults text table index index₁ n k r (onward_row r₁)
   results-last q xs us h =
-      let c = closed (result max_brackets) (result-shrinks max_brackets) text table n r.at r₁.at (λ x us h. (one x us h).left) q h in
+      let c = closed (typed_name max_brackets) (result-shrinks max_brackets) text table n r.at r₁.at (λ x us h. (one x us h).left) q h in
       let o = one c.one c.behind c.read in
       record { left = c.left; judged = rw c.is (judged-onward of_results text table k o.judged) }
 
   pub results-more : {index' : List ℕ} {r' : Row} → lookahead (toks text table n r₁.at) ≡ comma
       → OfResults text table index₁ index' n k (onward_row r₁) r' → OfResults text table index index' n k r r'
   results-more q all xs us h =
-      let g = goes_on (result max_brackets) (result-shrinks max_brackets) text table n r.at r₁.at (λ x us h. (one x us h).left) q h in
+      let g = goes_on (typed_name max_brackets) (result-shrinks max_brackets) text table n r.at r₁.at (λ x us h. (one x us h).left) q h in
       let o = one g.one g.behind g.read in
       let m = all g.others us g.more in
       record { left = m.left; judged = rw g.is (judged-more of_results text table k o.judged m.judged) }
@@ -285,7 +285,7 @@ module _ {text table index index₁ : List ℕ} {n k : ℕ} {r r₁ : Row} (one 
 module _ {text table index : List ℕ} {n k : ℕ} {r : Row} (ready : Ready text table index n k r) (reads : Reads result_row text table n r.at) where
   pub result-inside : r.at < n
   result-inside =
-      let b = begins (result max_brackets) (result-shrinks max_brackets) text table n r.at reads.is in
+      let b = begins (typed_name max_brackets) (result-shrinks max_brackets) text table n r.at reads.is in
       let t = result-takes max_brackets (toks text table n r.at) b.read in
       let l = toks-length text table n r.at in
       omega arith
@@ -293,7 +293,7 @@ module _ {text table index : List ℕ} {n k : ℕ} {r : Row} (ready : Ready text
   module _ {index₁ : List ℕ} {r₁ : Row} (one : OfResult text table index index₁ n k r r₁) (walk : Walkable index₁ (r.at + 1) n) (same : Carried r r₁) where
     pub result-behind : (r.at + 3 ≤ r₁.at) × (r₁.at < n)
     result-behind =
-        let b = begins (result max_brackets) (result-shrinks max_brackets) text table n r.at reads.is in
+        let b = begins (typed_name max_brackets) (result-shrinks max_brackets) text table n r.at reads.is in
         let o = one b.one (b.mark ∷ b.behind) b.read in (
           far-on text table n r.at o.left (result-takes max_brackets (toks text table n r.at) b.read),
           (first_of text table n r₁.at b.mark b.behind (sym o.left)).inside,
@@ -301,12 +301,12 @@ module _ {text table index : List ℕ} {n k : ℕ} {r : Row} (ready : Ready text
 
     pub result-ready : Ready text table index₁ n k (onward_row r₁)
     result-ready =
-        let b = begins (result max_brackets) (result-shrinks max_brackets) text table n r.at reads.is in
+        let b = begins (typed_name max_brackets) (result-shrinks max_brackets) text table n r.at reads.is in
         let o = one b.one (b.mark ∷ b.behind) b.read in
         ready-onward ready walk result-behind.0 result-behind.1 o.judged.count (let z = same.params in omega arith)
 
     pub result-reads : lookahead (toks text table n r₁.at) ≡ comma → Reads result_row text table n (r₁.at + 1)
-    result-reads q = still-reads (result max_brackets) (result-shrinks max_brackets) text table n r.at r₁.at (λ x us h. (one x us h).left) q reads
+    result-reads q = still-reads (typed_name max_brackets) (result-shrinks max_brackets) text table n r.at r₁.at (λ x us h. (one x us h).left) q reads
 
 -- one result
 module _ {text table index index₁ : List ℕ} {n k : ℕ} {r : Row} {again : Bool} {ty : TypeAt} {best : Best}

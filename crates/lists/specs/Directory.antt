@@ -7,7 +7,7 @@ use Rattle.lexis.specs.Lexer.{Token}
 use Rattle.lexis.specs.Symbol.{right_round}
 use Rattle.syntax.specs.Tree.{Value, Param, Header}
 use Rattle.syntax.specs.Grammar.{literals}
-use Rattle.syntax.specs.Parser.{plain, commas, row, value, type, result}
+use Rattle.syntax.specs.Parser.{plain, commas, row, value, type, typed_name}
 use Rattle.syntax.specs.Parser.Parse.{ok}
 use Rattle.syntax.specs.Table.{token_at, toks}
 use Rattle.lists.specs.Masks.{mask_of, is_required}
@@ -68,7 +68,7 @@ pub record OperationAt (text table words : List ℕ) (n k : ℕ) (h : Header) : 
   pub tokens : 4 * operation_word words k 2 ≤ n
   pub required : operation_word words k 3 ≡ mask_of (map is_required h.params)
   pub after : List Token
-  pub results : row plain (commas right_round) (result max_brackets) (toks text table n (operation_word words k 4)) ≡ ok h.results after
+  pub results : row plain (commas right_round) (typed_name max_brackets) (toks text table n (operation_word words k 4)) ≡ ok h.results after
   pub code : operation_word words k 5 ≡ result_code h.results
 
 -- those from number k on are hs

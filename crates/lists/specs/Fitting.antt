@@ -9,7 +9,7 @@ use Rattle.syntax.specs.Tree.Values.{none}
 use Rattle.syntax.specs.Tree.Ty.{array_of, tuple_of}
 use Rattle.syntax.specs.Tree.Tys.{no-type, a-type}
 use Rattle.syntax.specs.Grammar.{Leaves, Spells, Items, IsTypeName, Dims, IsType, IsTypes, IsLeft}
-use Rattle.syntax.specs.Parser.{plain, commas, row, value, type, result, left}
+use Rattle.syntax.specs.Parser.{plain, commas, row, value, type, typed_name, left}
 use Rattle.syntax.specs.Parser.Parse.{ok}
 use Rattle.syntax.specs.Table.{token_at, toks}
 use Rattle.syntax.specs.Inner.{lookahead}
@@ -197,4 +197,4 @@ OfWhole text table n i u r =
 abbrev pub MatchesResults : List ℕ → List ℕ → ℕ → ℕ → List Token → ℕ → Bool → Type 0
 MatchesResults text table n i ts code r =
     (b : ℕ) (v : Value) (us : List Token) (c : ℕ) (rs : List Result) (ws : List Token) → left b (toks text table n i) ≡ ok v us
-    → row plain (commas right_round) (result c) ts ≡ ok rs ws → code ≡ result_code rs → r ≡ fits v (result_type rs)
+    → row plain (commas right_round) (typed_name c) ts ≡ ok rs ws → code ≡ result_code rs → r ≡ fits v (result_type rs)

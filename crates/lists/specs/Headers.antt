@@ -7,7 +7,7 @@ use Rattle.lexis.specs.Sizes.{max_text, max_tokens, max_brackets, max_operations
 use Rattle.lexis.specs.Lexer.{Token}
 use Rattle.lexis.specs.Symbol.{right_round}
 use Rattle.syntax.specs.Tree.{Value, Ty, Param, Result, Header}
-use Rattle.syntax.specs.Parser.{Reader, plain, commas, row, type, default, param, result, header, operations}
+use Rattle.syntax.specs.Parser.{Reader, plain, commas, row, type, default, param, typed_name, header, operations}
 use Rattle.syntax.specs.Parser.Parse.{ok}
 use Rattle.syntax.specs.Table.{token_at, toks, Holds}
 use Rattle.index.specs.Indexed.{Walkable}
@@ -43,7 +43,7 @@ abbrev pub param_row : Reader (List Param)
 param_row = row plain (commas right_round) (param max_brackets)
 
 abbrev pub result_row : Reader (List Result)
-result_row = row plain (commas right_round) (result max_brackets)
+result_row = row plain (commas right_round) (typed_name max_brackets)
 
 -- the words have room for the records of all operations, and for those of parameters of four tokens each
 pub record Roomy (words : List ℕ) (n : ℕ) : Type 0 where
@@ -184,7 +184,7 @@ pub record ResultsRead (text table index index' : List ℕ) (n k : ℕ) (r r' : 
 
 abbrev pub OfResult : List ℕ → List ℕ → List ℕ → List ℕ → ℕ → ℕ → Row → Row → Type 0
 OfResult text table index index' n k r r' =
-    (x : Result) (us : List Token) → result max_brackets (toks text table n r.at) ≡ ok x us → ResultsRead text table index index' n k r r' (x ∷ []) us
+    (x : Result) (us : List Token) → typed_name max_brackets (toks text table n r.at) ≡ ok x us → ResultsRead text table index index' n k r r' (x ∷ []) us
 
 abbrev pub OfResults : List ℕ → List ℕ → List ℕ → List ℕ → ℕ → ℕ → Row → Row → Type 0
 OfResults text table index index' n k r r' =

@@ -7,7 +7,7 @@ ghost use Rattle.lists.specs.Walks.{when};
 use lexis::code::Code;
 
 // A fault's place, code and detail; with the code of acceptance there is none.
-#[derive(Drop)]
+#[derive(Clone, Copy)]
 pub struct Best {
     pub at: u32,
     pub code: u32,

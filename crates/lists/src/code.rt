@@ -1,5 +1,5 @@
 // The codes of a refusal that the rules of an operation list may get. A document may get the first two as well.
-#[derive(Drop)]
+#[derive(Clone, Copy)]
 pub struct Code {}
 
 impl Code {

@@ -17,7 +17,7 @@ use lexis::limits::Limits;
 
 // The words of an operation's record: the place of its name, the number of its first parameter and that after its last, the mask of its parameters without a
 // default, the place of its first result, the number of that result's type or `SEVERAL`.
-#[derive(Drop)]
+#[derive(Clone, Copy)]
 pub struct Op {}
 
 impl Op {
@@ -37,7 +37,7 @@ impl Op {
 }
 
 // The words of a parameter's record: the place of its name, the number of its type, the place of its default or 0.
-#[derive(Drop)]
+#[derive(Clone, Copy)]
 pub struct Param {}
 
 impl Param {
@@ -54,7 +54,7 @@ impl Param {
 }
 
 // The words of a directory, and of an index of names, for a list of as many tokens as a text may have. A parameter takes four tokens at least.
-#[derive(Drop)]
+#[derive(Clone, Copy)]
 pub struct Room {}
 
 impl Room {
@@ -72,7 +72,7 @@ impl Room {
 
 // The words of a name in the index: the number of the operation of that name, and that of the last header with a parameter or result of that name. Both are
 // counted from 1, and 0 is none.
-#[derive(Drop)]
+#[derive(Clone, Copy)]
 pub struct Name {}
 
 impl Name {
@@ -120,7 +120,7 @@ pub(crate) fn store_operation(
 }
 
 // Where an operation stands in the directory.
-#[derive(Drop)]
+#[derive(Clone, Copy)]
 pub enum Lookup {
     At(usize),
     Missing,

@@ -503,7 +503,7 @@ pub fn matches(
 }
 
 // The pairs of square brackets of a type, and the place after it.
-#[derive(Drop)]
+#[derive(Clone, Copy)]
 pub struct Shape {
     pub pairs: usize,
     pub at: usize,

@@ -33,7 +33,7 @@ use syntax::value::{Leaves, value};
 
 // Where the walk along a header has come to: the first fault, the place it goes on at, how many items of the row it has met, how many parameters of the list
 // there are, and the mask of those of the row without a default.
-#[derive(Drop)]
+#[derive(Clone, Copy)]
 pub struct Row {
     pub best: Best,
     pub at: usize,
@@ -43,7 +43,7 @@ pub struct Row {
 }
 
 // The default of a parameter: its place, or 0 where there is none, the place after it, and its fault.
-#[derive(Drop)]
+#[derive(Clone, Copy)]
 pub struct Default {
     pub at: usize,
     pub end: usize,
@@ -51,7 +51,7 @@ pub struct Default {
 }
 
 // The first fault of a list, and how many operations it has.
-#[derive(Drop)]
+#[derive(Clone, Copy)]
 pub struct Ruled {
     pub best: Best,
     pub count: usize,

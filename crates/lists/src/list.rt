@@ -9,7 +9,7 @@ use lexis::{Answer, Counted};
 use syntax::{Syntax, read};
 
 // What the stages of a list come to: how many tokens and operations it has, or a refusal.
-#[derive(Drop)]
+#[derive(Clone, Copy)]
 pub enum Listed {
     Passed(usize, usize),
     Stopped(Answer),

@@ -13,7 +13,7 @@ use lexis::symbol::Symbol;
 use syntax::symbol::symbol_at;
 
 // The kinds of leaf that a type word takes, as a mask: bit k is kind k. No two words take the same kinds, and a tuple takes none.
-#[derive(Drop)]
+#[derive(Clone, Copy)]
 pub struct LeafKinds {}
 
 impl LeafKinds {
@@ -55,7 +55,7 @@ fn kinds_of(s: u32) -> u32
 }
 
 // A type: the kinds of leaf that its word takes, its pairs of square brackets, whether tensor is the only word in it, and the place after it.
-#[derive(Drop)]
+#[derive(Clone, Copy)]
 pub struct TypeAt {
     pub kinds: u32,
     pub pairs: usize,
@@ -64,7 +64,7 @@ pub struct TypeAt {
 }
 
 // The place after a type without its pairs of square brackets, and whether tensor is the only word in it.
-#[derive(Drop)]
+#[derive(Clone, Copy)]
 pub struct Span {
     pub at: usize,
     pub tensor: bool,

@@ -1,5 +1,5 @@
 // The codes of a refusal that an order of calls may get.
-#[derive(Drop)]
+#[derive(Clone, Copy)]
 pub struct Code {}
 
 impl Code {

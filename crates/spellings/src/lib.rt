@@ -9,7 +9,7 @@ ghost use Rattle.spellings.specs.Comparison.{same_bytes, told, comparison, max_c
 use packed::eight;
 
 // Whether two spellings are the same, and how many pairs of bytes were compared to tell.
-#[derive(Drop)]
+#[derive(Clone, Copy)]
 pub struct Comparison {
     pub same: bool,
     pub pairs: usize,
@@ -17,7 +17,7 @@ pub struct Comparison {
 
 // A comparison as two words.
 #[repr(C)]
-#[derive(Drop)]
+#[derive(Clone, Copy)]
 pub struct Compared {
     pub same: u32,
     pub pairs: u32,

@@ -37,7 +37,7 @@ use Rattle.syntax.specs.Grammar.IsCall.{a_call}
 use Rattle.syntax.specs.Grammar.IsBody.{last-call, next-call}
 use Rattle.syntax.specs.Grammar.IsDocument.{a-document}
 use Rattle.syntax.specs.Parser.{Reader, expect, begins, rest, Row, follow, Lists, plain, values, types, row, negative, value_step, array_items, tuple_items}
-use Rattle.syntax.specs.Parser.{bracketed, value, type_name, dims, tuple_types, base_step, type, default, param, result, header, operations, labelled}
+use Rattle.syntax.specs.Parser.{bracketed, value, type_name, dims, tuple_types, base_step, type, default, param, typed_name, header, operations, labelled}
 use Rattle.syntax.specs.Parser.{argument, left, call, document}
 use Rattle.syntax.specs.Parser.Parse.{ok}
 use Rattle.syntax.specs.Parser.Row.{commas, closed, to_the_end}
@@ -245,8 +245,8 @@ pub param-complete : {b : ℕ} {ts us : List Token} {x : Param} → begins left_
 unfolding param expect
 param-complete n k (a-param p q h d) = rw (p, q, type-complete (default-starts n d) h, default-complete k d)
 
-pub result-complete : {b : ℕ} {ts us : List Token} {x : Result} → begins left_square us ≡ false → IsResult b ts x us → result b ts ≡ ok x us
-unfolding result expect
+pub result-complete : {b : ℕ} {ts us : List Token} {x : Result} → begins left_square us ≡ false → IsResult b ts x us → typed_name b ts ≡ ok x us
+unfolding typed_name expect
 result-complete n (a-result p q h) = rw (p, q, type-complete n h)
 
 pub header-complete : {b : ℕ} {ts us : List Token} {h : Header} → IsHeader b ts h us → header b ts ≡ ok h us

@@ -15,7 +15,7 @@ use Rattle.syntax.specs.Tree.Value.{name, literal, array, tuple}
 use Rattle.syntax.specs.Grammar.{Leaves, names, literals, both, takes_names, takes_literals}
 use Rattle.syntax.specs.Parser.{Parse, Reader, Row, Follow, Lists, then, mapped, expect, begins, rest, follow, onward, row_f, row, plain, negative}
 use Rattle.syntax.specs.Parser.{value_step}
-use Rattle.syntax.specs.Parser.{array_items, tuple_items, bracketed, value, dims, tuple_types, base_step, type, default, param, result, header, operations}
+use Rattle.syntax.specs.Parser.{array_items, tuple_items, bracketed, value, dims, tuple_types, base_step, type, default, param, typed_name, header, operations}
 use Rattle.syntax.specs.Parser.{labelled, argument, left, call, document}
 use Rattle.syntax.specs.Parser.Parse.{ok, bad}
 use Rattle.syntax.specs.Parser.Row.{commas}
@@ -133,8 +133,8 @@ module _ (b b' : ℕ) (l : b ≤ b') where
       then-raised (type-raised b b' l us) (λ u us.
       mapped-raised _ (default-raised us))))
 
-  result-raised : Raises (result b) (result b')
-  unfolding result
+  result-raised : Raises (typed_name b) (typed_name b')
+  unfolding typed_name
   result-raised ts =
       past (expect a_name ts) (λ n us.
       past (expect colon us) (λ c us.

@@ -20,7 +20,7 @@ use Rattle.syntax.specs.Tree.Value.{name, literal, array, tuple}
 use Rattle.syntax.specs.Tree.Arg.{named}
 use Rattle.syntax.specs.Grammar.{literals, both}
 use Rattle.syntax.specs.Parser.{Parse, then, mapped, expect, begins, rest, row, plain, commas, negative, value_step, bracketed, array_items}
-use Rattle.syntax.specs.Parser.{tuple_items, value, type, default, param, result, labelled, argument}
+use Rattle.syntax.specs.Parser.{tuple_items, value, type, default, param, typed_name, labelled, argument}
 use Rattle.syntax.specs.Parser.Parse.{ok, bad}
 use Rattle.syntax.specs.Table.{toks, parsed}
 use Rattle.syntax.specs.Inner.{lookahead, onwards, is_label, reader}
@@ -66,14 +66,14 @@ module _ (text table : List ℕ) (e n i b : ℕ) where
   abbrev defaults : ℕ → Parsed
   defaults j = parsed e n (default b (toks text table n j))
 
-  pub result-is : parsed e n (result b (toks text table n i)) ≡ steps (word text table e n a_name i) (word text table e n colon ∷ typed ∷ [])
-  unfolding result
+  pub result-is : parsed e n (typed_name b (toks text table n i)) ≡ steps (word text table e n a_name i) (word text table e n colon ∷ typed ∷ [])
+  unfolding typed_name
   result-is =
       chain text table e n i _ (word text table e n colon ∷ typed ∷ []) (expect-tails a_name (toks text table n i)) (λ m j.
       chain text table e n j _ (typed ∷ []) (expect-tails colon (toks text table n j)) (λ c k.
       mapped-same e n (λ u. record { name = m; ty = u }) (type b (toks text table n k))))
 
-  pub param_is : parsed e n (param b (toks text table n i)) ≡ onwards (parsed e n (result b (toks text table n i))) defaults
+  pub param_is : parsed e n (param b (toks text table n i)) ≡ onwards (parsed e n (typed_name b (toks text table n i))) defaults
   unfolding param
   param_is =
       chain text table e n i _ (word text table e n colon ∷ typed ∷ defaults ∷ []) (expect-tails a_name (toks text table n i)) (λ m j.

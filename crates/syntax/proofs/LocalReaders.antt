@@ -19,7 +19,7 @@ use Rattle.syntax.specs.Tree.Ty.{array_of}
 use Rattle.syntax.specs.Tree.Arg.{positional}
 use Rattle.syntax.specs.Grammar.{Leaves, names, literals, both, takes_names, takes_literals}
 use Rattle.syntax.specs.Parser.{Parse, Reader, then, expect, begins, rest, negative, value_step, array_items, tuple_items, bracketed, value, type_name, dims}
-use Rattle.syntax.specs.Parser.{tuple_types, named-type, base_step, type, default, param, result, header, operations, labelled, argument, left, call}
+use Rattle.syntax.specs.Parser.{tuple_types, named-type, base_step, type, default, param, typed_name, header, operations, labelled, argument, left, call}
 use Rattle.syntax.specs.Parser.{at_end, document}
 use Rattle.syntax.specs.Parser.Parse.{ok, bad}
 use Rattle.syntax.proofs.Row.{Shrinks, left-ok}
@@ -133,8 +133,8 @@ param-local b =
     then-local (type-local b) (λ u.
     mapped-local _ (default-local b))))
 
-pub result-local : (b : ℕ) → Local (result b)
-unfolding result
+pub result-local : (b : ℕ) → Local (typed_name b)
+unfolding typed_name
 result-local b =
     then-local (expect-local a_name) (λ n.
     then-local (expect-local colon) (λ c.

@@ -16,7 +16,7 @@ use Rattle.syntax.specs.Tree.Value.{name, literal, array, tuple}
 use Rattle.syntax.specs.Tree.Ty.{array_of}
 use Rattle.syntax.specs.Grammar.{Leaves, names, literals, both, takes_names, takes_literals}
 use Rattle.syntax.specs.Parser.{Parse, Reader, expect, begins, rest, negative, value_step, array_items, tuple_items, bracketed, value, type_name, dims}
-use Rattle.syntax.specs.Parser.{tuple_types, named-type, base_step, type, default, param, result, header, labelled, argument, left, call}
+use Rattle.syntax.specs.Parser.{tuple_types, named-type, base_step, type, default, param, typed_name, header, labelled, argument, left, call}
 use Rattle.syntax.specs.Parser.Parse.{ok}
 use Rattle.syntax.proofs.Row.{cond_has, Left, Shrinks, then-left, mapped-left, left_le, row-shrinks}
 use Rattle.syntax.proofs.Row.Left.{fewer, fault}
@@ -132,8 +132,8 @@ param-shrinks b ts =
     then-left (still (type-shrinks b) p) (λ u us p.
     mapped-left _ (left_le p (default-keeps b us)))))
 
-pub result-shrinks : (b : ℕ) → Shrinks (result b)
-unfolding result
+pub result-shrinks : (b : ℕ) → Shrinks (typed_name b)
+unfolding typed_name
 result-shrinks b ts =
     then-left (expect-shrinks a_name ts) (λ n us p.
     then-left (still (expect-shrinks colon) p) (λ c us p.

@@ -42,7 +42,7 @@ use Rattle.syntax.specs.Grammar.IsCall.{a_call}
 use Rattle.syntax.specs.Grammar.IsBody.{last-call, next-call}
 use Rattle.syntax.specs.Grammar.IsDocument.{a-document}
 use Rattle.syntax.specs.Parser.{Parse, then, mapped, Reader, expect, begins, rest, plain, values, types, row, negative, value_step, array_items, tuple_items}
-use Rattle.syntax.specs.Parser.{bracketed, value, type_name, dims, tuple_types, named-type, base_step, type, default, param, result, header, operations}
+use Rattle.syntax.specs.Parser.{bracketed, value, type_name, dims, tuple_types, named-type, base_step, type, default, param, typed_name, header, operations}
 use Rattle.syntax.specs.Parser.{labelled, argument, left, call, at_end, document}
 use Rattle.syntax.specs.Parser.Parse.{ok, bad}
 use Rattle.syntax.specs.Parser.Row.{commas, closed, to_the_end}
@@ -314,8 +314,8 @@ param-reads b =
     after IsType _ (type_reads b) (λ u.
     into IsDefault _ _ (default-reads b) (λ b us d ws h ts g. a-param sn sc g h))))
 
-pub result-reads : (b : ℕ) → Reads IsResult b (result b)
-unfolding result
+pub result-reads : (b : ℕ) → Reads IsResult b (typed_name b)
+unfolding typed_name
 result-reads b =
     expects IsResult name-token (λ n sn.
     expects _ (mark colon) (λ c sc.

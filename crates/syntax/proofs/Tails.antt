@@ -16,7 +16,7 @@ use Rattle.syntax.specs.Tree.Ty.{array_of}
 use Rattle.syntax.specs.Grammar.{Leaves, names, literals, both, takes_names, takes_literals}
 use Rattle.syntax.specs.Parser.{Parse, Reader, Row, Follow, Lists, then, mapped, expect, begins, rest, follow, onward, row_f, row, negative}
 use Rattle.syntax.specs.Parser.{value_step, array_items}
-use Rattle.syntax.specs.Parser.{tuple_items, bracketed, value, type_name, dims, tuple_types, named-type, base_step, type, default, param, result, header}
+use Rattle.syntax.specs.Parser.{tuple_items, bracketed, value, type_name, dims, tuple_types, named-type, base_step, type, default, param, typed_name, header}
 use Rattle.syntax.specs.Parser.{labelled, argument, left, call, operations, at_end, document, parse_list, parse_document}
 use Rattle.syntax.specs.Parser.Parse.{ok, bad}
 use Rattle.syntax.specs.Parser.Row.{commas, closed, to_the_end}
@@ -195,8 +195,8 @@ param-tails b ts =
     then-takes (further p (type-tails b us)) (λ u us p.
     mapped-takes _ (further p (default-tails b us)))))
 
-pub result-tails : (b : ℕ) → Tails (result b)
-unfolding result
+pub result-tails : (b : ℕ) → Tails (typed_name b)
+unfolding typed_name
 result-tails b ts =
     then-takes (expect-tails a_name ts) (λ n us p.
     then-takes (further p (expect-tails colon us)) (λ c us p.

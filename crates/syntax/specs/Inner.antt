@@ -7,7 +7,7 @@ use Rattle.lexis.specs.Symbol.{a_number, version, graph, tensor_word, extent_wor
 use Rattle.syntax.specs.Code as Code
 use Rattle.syntax.specs.Tree.{Ty, Param, Result, Arg, Call}
 use Rattle.syntax.specs.Grammar.{Leaves, names, literals, both, takes_names, takes_literals}
-use Rattle.syntax.specs.Parser.{Reader, then, expect, begins, rest, plain, commas, closed, row, tuple_types, base_step, type, param, result, argument, call}
+use Rattle.syntax.specs.Parser.{Reader, then, expect, begins, rest, plain, commas, closed, row, tuple_types, base_step, type, param, typed_name, argument, call}
 use Rattle.syntax.specs.Parser.Parse.{ok, bad}
 use Rattle.syntax.specs.Table.{toks, place_of}
 use Rattle.syntax.specs.declared.Parsed.{Parsed}
@@ -93,7 +93,7 @@ TreeOf W.Argument = Arg
 abbrev pub reader : (w : I.Item) → Reader (TreeOf w)
 reader W.Name = expect a_name
 reader W.Parameter = param max_brackets
-reader W.Result = result max_brackets
+reader W.Result = typed_name max_brackets
 reader W.Argument = argument max_brackets
 
 -- ---- documents

@@ -192,8 +192,8 @@ param b ts =
     mapped (λ d. record { name = n; ty = u; default = d }) (default b us))))
 
 -- a name, a colon and a type
-unfoldable pub result : ℕ → Reader Result
-result b ts =
+unfoldable pub typed_name : ℕ → Reader Result
+typed_name b ts =
     then (expect a_name ts) (λ n us.
     then (expect colon us) (λ c us.
     mapped (λ u. record { name = n; ty = u }) (type b us)))
@@ -207,7 +207,7 @@ header b ts =
     then (row plain (commas right_round) (param b) us) (λ ps us.
     then (expect arrow us) (λ a us.
     then (expect left_round us) (λ o us.
-    mapped (λ rs. record { keyword = f; name = n; params = ps; results = rs }) (row plain (commas right_round) (result b) us)))))))
+    mapped (λ rs. record { keyword = f; name = n; params = ps; results = rs }) (row plain (commas right_round) (typed_name b) us)))))))
 
 -- an operation list: headers up to the end
 unfoldable pub operations : ℕ → Reader (List Header)

@@ -21,7 +21,7 @@ use lexis::{Counted, lex_into};
 use operations::list_syntax;
 
 // What a reader answers: the place after what it read, or a fault.
-#[derive(Drop)]
+#[derive(Clone, Copy)]
 pub enum Parsed {
     Done(usize),
     Fault { code: u32, at: usize },
@@ -35,7 +35,7 @@ impl Parsed {
 }
 
 // What a text is read as.
-#[derive(Drop)]
+#[derive(Clone, Copy)]
 pub enum Syntax {
     List,
     Document,

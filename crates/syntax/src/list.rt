@@ -2,7 +2,7 @@
 ghost use Rattle.std.specs.Prelude.{◌≡◌, ◌≤◌, length};
 ghost use Rattle.lexis.specs.Sizes.{max_brackets};
 ghost use Rattle.lexis.specs.Symbol.{right_round};
-ghost use Rattle.syntax.specs.Parser.{default, result, param, argument, plain, commas, row};
+ghost use Rattle.syntax.specs.Parser.{default, typed_name, param, argument, plain, commas, row};
 ghost use Rattle.syntax.specs.Table.{toks, Holds, parsed};
 ghost use Rattle.syntax.specs.Inner.{is_label, reader, onwards};
 
@@ -14,7 +14,7 @@ use lexis::limits::Limits;
 use lexis::symbol::Symbol;
 
 // What a list is of.
-#[derive(Drop)]
+#[derive(Clone, Copy)]
 pub enum Item {
     Name,
     Parameter,
@@ -26,7 +26,7 @@ pub enum Item {
 fn default(text: &[u8], table: &[u32], n: usize, at: usize) -> Parsed
     requires holds { Holds text.now table.now n }
     requires at_le_n { at ≤ n }
-    ensures* { λ r. ⌜ r ≡ parsed (length text.now) n (default max_brackets (toks text.now table.now n at)) ⌝ }
+    ensures { result ≡ parsed (length text.now) n (default max_brackets (toks text.now table.now n at)) }
 {
     if symbol_at(text, table, n, at) != Symbol::EQUAL {
         return Parsed::Done(at);
@@ -37,7 +37,7 @@ fn default(text: &[u8], table: &[u32], n: usize, at: usize) -> Parsed
 // A name, a colon and a type.
 fn result(text: &[u8], table: &[u32], n: usize, at: usize) -> Parsed
     requires { Holds text.now table.now n }
-    ensures* { λ r. ⌜ r ≡ parsed (length text.now) n (result max_brackets (toks text.now table.now n at)) ⌝ }
+    ensures { result ≡ parsed (length text.now) n (typed_name max_brackets (toks text.now table.now n at)) }
 {
     let name = expect(text, table, n, at, Symbol::NAME);
     let colon = name.then_expect(text, table, n, Symbol::COLON);
@@ -50,7 +50,7 @@ fn result(text: &[u8], table: &[u32], n: usize, at: usize) -> Parsed
 // A result with a default, or without one.
 fn parameter(text: &[u8], table: &[u32], n: usize, at: usize) -> Parsed
     requires { Holds text.now table.now n }
-    ensures* { λ r. ⌜ r ≡ parsed (length text.now) n (param max_brackets (toks text.now table.now n at)) ⌝ }
+    ensures { result ≡ parsed (length text.now) n (param max_brackets (toks text.now table.now n at)) }
 {
     let typed = result(text, table, n, at);
     let Parsed::Done(next) = typed else {
@@ -62,7 +62,7 @@ fn parameter(text: &[u8], table: &[u32], n: usize, at: usize) -> Parsed
 // Whether a name and an equals sign stand at place `at`.
 pub fn is_label(text: &[u8], table: &[u32], n: usize, at: usize) -> bool
     requires { Holds text.now table.now n }
-    ensures* { λ r. ⌜ r ≡ is_label (toks text.now table.now n at) ⌝ }
+    ensures { result ≡ is_label (toks text.now table.now n at) }
 {
     if symbol_at(text, table, n, at) != Symbol::NAME {
         return false;
@@ -73,7 +73,7 @@ pub fn is_label(text: &[u8], table: &[u32], n: usize, at: usize) -> bool
 // A value, or a name, an equals sign and a value.
 fn argument(text: &[u8], table: &[u32], n: usize, at: usize) -> Parsed
     requires { Holds text.now table.now n }
-    ensures* { λ r. ⌜ r ≡ parsed (length text.now) n (argument max_brackets (toks text.now table.now n at)) ⌝ }
+    ensures { result ≡ parsed (length text.now) n (argument max_brackets (toks text.now table.now n at)) }
 {
     if is_label(text, table, n, at) {
         return value(text, table, n, at + 2, Leaves::Both, Limits::BRACKETS);
@@ -84,7 +84,7 @@ fn argument(text: &[u8], table: &[u32], n: usize, at: usize) -> Parsed
 // One item of a list.
 pub fn one(text: &[u8], table: &[u32], n: usize, at: usize, which: Item) -> Parsed
     requires { Holds text.now table.now n }
-    ensures* { λ r. ⌜ r ≡ parsed (length text.now) n (reader which (toks text.now table.now n at)) ⌝ }
+    ensures { result ≡ parsed (length text.now) n (reader which (toks text.now table.now n at)) }
 {
     match which {
         Item::Name => expect(text, table, n, at, Symbol::NAME),
@@ -97,8 +97,8 @@ pub fn one(text: &[u8], table: &[u32], n: usize, at: usize, which: Item) -> Pars
 // Items parted by commas, at least one, and the closing bracket.
 pub fn list(text: &[u8], table: &[u32], n: usize, at: usize, which: Item) -> Parsed
     requires { Holds text.now table.now n }
-    ensures* { λ r. ⌜ r ≡ parsed (length text.now) n
-        (row plain (commas right_round) (reader which) (toks text.now table.now n at)) ⌝ }
+    ensures { result ≡ parsed (length text.now) n
+        (row plain (commas right_round) (reader which) (toks text.now table.now n at)) }
 {
     let mut i = at;
     loop {
@@ -117,9 +117,8 @@ impl Parsed {
     // And then a list.
     pub(crate) fn then_list(self, text: &[u8], table: &[u32], n: usize, which: Item) -> Parsed
         requires { Holds text.now table.now n }
-        ensures* { λ r. ⌜ r ≡ onwards self
-            (λ j. parsed (length text.now) n (row plain (commas right_round) (reader which) (toks text.now table.now n j)))
-            ⌝ }
+        ensures { result ≡ onwards self
+            (λ j. parsed (length text.now) n (row plain (commas right_round) (reader which) (toks text.now table.now n j))) }
     {
         match self {
             Parsed::Done(at) => list(text, table, n, at, which),

@@ -13,7 +13,7 @@ use crate::symbol::{fault_at, symbol_at};
 use lexis::symbol::Symbol;
 
 // What a value's leaves may be: names on a left side, literals in a default, both in an argument.
-#[derive(Drop)]
+#[derive(Clone, Copy)]
 pub enum Leaves {
     Names,
     Literals,

@@ -26,7 +26,7 @@ pub fn wide(x: u16) -> usize
 }
 
 // A walk over the arguments of a call: the place of the next, how many stand before it, and the parameter after the one bound last.
-#[derive(Drop)]
+#[derive(Clone, Copy)]
 pub struct Walk {
     pub at: usize,
     pub index: usize,
@@ -34,7 +34,7 @@ pub struct Walk {
 }
 
 // What an argument is for: the number of a parameter, or one beyond the last; and the place of its value.
-#[derive(Drop)]
+#[derive(Clone, Copy)]
 pub struct Aim {
     pub number: usize,
     pub value: usize,
@@ -252,7 +252,7 @@ fn put_slots(
 }
 
 // What was put, and the place of the bracket that closes the arguments.
-#[derive(Drop)]
+#[derive(Clone, Copy)]
 pub struct Arguments {
     pub place: Place,
     pub close: usize,

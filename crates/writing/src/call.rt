@@ -38,7 +38,7 @@ fn put_operation(
 }
 
 // What was put, and the place of the next call.
-#[derive(Drop)]
+#[derive(Clone, Copy)]
 pub struct Step {
     pub place: Place,
     pub next: usize,

@@ -9,7 +9,7 @@ use lexis::limits::Limits;
 use lists::word::word;
 
 // How many bytes and tokens have been put.
-#[derive(Drop)]
+#[derive(Clone, Copy)]
 pub struct Place {
     pub bytes: usize,
     pub tokens: usize,

@@ -31,7 +31,7 @@ const STRING: u32 = Kind::STRING as u32;
 const TRUTH: u32 = Kind::TRUTH as u32;
 
 // What was put, and the place of the table after it.
-#[derive(Drop)]
+#[derive(Clone, Copy)]
 pub struct Put {
     pub place: Place,
     pub next: usize,

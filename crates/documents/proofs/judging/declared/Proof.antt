@@ -6,7 +6,7 @@ use Prim.Native.Nat.{ℕ}
 use native.Mathlib.Omega.{arith}
 use Rattle.lexis.specs.Sizes.{max_brackets}
 use Rattle.lexis.specs.Symbol.{right_round}
-use Rattle.syntax.specs.Parser.{row, plain, commas, result}
+use Rattle.syntax.specs.Parser.{row, plain, commas, typed_name}
 use Rattle.syntax.specs.Table.{toks}
 use Rattle.lists.specs.Fault.{Fault, earlier}
 use Rattle.lists.specs.Best.{meant}
@@ -88,7 +88,7 @@ returns c =
           let ps = h.params in
           let few = d.few in
           let results =
-          ap (λ (i : ℕ). row plain (commas right_round) (result max_brackets) (toks a.ltext.now a.ltable.now a.ln i)) o.results ∙ e.results in
+          ap (λ (i : ℕ). row plain (commas right_round) (typed_name max_brackets) (toks a.ltext.now a.ltable.now a.ln i)) o.results ∙ e.results in
           record {
             faults = λ k w.
                 let q = (t.ensures.1 ps k.args (parts w).behind d (arguments-are w)).0 in

@@ -3,7 +3,7 @@ use lib.ListN.{length}
 use borrow.Author.Rules.{rules}
 use Rattle.lexis.specs.Sizes.{max_brackets}
 use Rattle.syntax.specs.Table.{toks}
-use Rattle.syntax.specs.Parser.{result}
+use Rattle.syntax.specs.Parser.{typed_name}
 use Rattle.syntax.proofs.Lists.{param_is}
 use Rattle.syntax.proofs.Chain.{fell, went, reaches}
 use Rattle.syntax.proofs.list.parameter.Statement.{statement}
@@ -28,7 +28,7 @@ default-requires : tie.Need-default-requires
 default-requires c κs =
     let a = c.before.before.before.before.before.before.args in (
       c.before.before.before.before.before.before.requires,
-      reaches (length a.text.now) a.n (result max_brackets (toks a.text.now a.table.now a.n a.at))
+      reaches (length a.text.now) a.n (typed_name max_brackets (toks a.text.now a.table.now a.n a.at))
           c.before.before.before.result.ensures c.before.type-inv.given.1,
     )
 
