@@ -1,0 +1,10 @@
+-- The two cases of the comparison.
+use mathlib.Core.Path.{sym, ◌∙◌}
+use borrow.Author.Rules.{rules}
+use Rattle.lexis.proofs.symbol.symbol_if.Goals as goal
+
+pub returns-then-same : goal.returns-then-same
+returns-then-same c = rw (sym c.same.ensures ∙ c.if-same.true)
+
+pub returns : goal.returns
+returns c = rw (sym c.same.ensures ∙ c.if-same.false)

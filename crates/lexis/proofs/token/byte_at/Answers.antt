@@ -1,0 +1,8 @@
+-- Past the end stands 0.
+use mathlib.Core.Path.{sym}
+use borrow.Author.Rules.{rules}
+use lib.ListN.{get_or-eq_default}
+use Rattle.lexis.proofs.token.byte_at.Goals as goal
+
+pub returns : goal.returns
+returns c = sym (get_or-eq_default c.args.text.now 0 c.if-i-text.false)

@@ -1,0 +1,14 @@
+-- The word is compared with each word that begins with i (`kind-by`).
+use mathlib.Core.Path.{sym, ◌∙◌}
+use borrow.Author.Rules.{rules}
+use Rattle.lexis.specs.Words.{words, kind_in}
+use Rattle.lexis.proofs.Words.{begun, keep, kind-by}
+use Rattle.lexis.proofs.word.kind_i.Goals as goal
+
+pub returns-then-same : goal.returns-then-same
+unfolding begun keep words kind_in
+returns-then-same c = sym (kind-by c.args.w.now 105 c.requires ∙ rw (sym c.same.ensures ∙ c.if-same.true))
+
+pub returns : goal.returns
+unfolding begun keep words kind_in
+returns c = c.kind_if.ensures ∙ sym (kind-by c.args.w.now 105 c.requires ∙ rw (sym c.same.ensures ∙ c.if-same.false))
