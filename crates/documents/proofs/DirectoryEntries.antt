@@ -19,7 +19,7 @@ use Rattle.lists.specs.Reading.{is_some}
 use Rattle.lists.specs.Found.{operation_of, find, index_of}
 use Rattle.lists.specs.Lists.{header_faults}
 use Rattle.lists.specs.Directory.{operation_word, parameter_word, first_parameter, parameter_words, ParameterAt, ParametersAt, OperationAt, OperationsAt}
-use Rattle.lists.specs.Directory.ParametersAt.{a-parameter}
+use Rattle.lists.specs.Directory.ParametersAt.{no-parameter, a-parameter}
 use Rattle.lists.specs.Directory.OperationsAt.{no-operation, an-operation}
 use Rattle.lists.proofs.First.{first-append}
 use Rattle.lists.proofs.Faultless.{neither, few-params, apart-params}
@@ -46,6 +46,7 @@ nth-below (after n) = let l = nth-below n in omega arith
 
 module _ {text table words : List ℕ} {n : ℕ} where
   pub nth-at : {j i : ℕ} {p : Param} {ps : List Param} → ParametersAt text table words n j ps → Nth i p ps → ParameterAt text table words n (j + i) p
+  nth-at {j} no-parameter k = elim k [ ]
   nth-at {j} (a-parameter p r) nth-first = let e : j + 0 ≡ j = omega arith in rw e p
   nth-at {j} (a-parameter p r) (after {j = i} k) = let e : j + suc i ≡ suc j + i = omega arith in rw e (nth-at r k)
 

@@ -116,6 +116,7 @@ none-again t seen (p ∷ ps) far h =
     cons (far p.name f.new) (none-again t (seen ++ (p.name ∷ [])) ps (λ s n. far s (among-less seen p.name s n)) f.rest)
 
 pub none-nth : {t : Token} {i : ℕ} {p : Param} {ps : List Param} → None t ps → Nth i p ps → alike p t ≡ false
+none-nth nil k = elim k [ ]
 none-nth (cons h n) nth-first = h
 none-nth (cons h n) (after k) = none-nth n k
 

@@ -31,21 +31,21 @@ start_at (t ∷ ts) (suc i) = start_at ts i
 start-after : {at : ℕ} (text : List ℕ) (ts : List Token) → Placed text at ts → (j : ℕ) → j < length ts → at ≤ start_at ts j
 start-after text [] p j h = absurd (omega arith)
 start-after text (t ∷ ts) (next starts found some fits own rest) zero h = omega (arith, starts)
-start-after text (t ∷ ts) (next starts found some fits own rest) (suc j) h =
-    omega (arith, starts, start-after text ts rest j (le_of_suc-le-suc h))
+start-after {at = at} text (t ∷ ts) (next starts found some fits own rest) (suc j) h =
+    omega (arith, starts, start-after {at = t.start + length t.bytes} text ts rest j (le_of_suc-le-suc h))
 
 starts-rise : {at : ℕ} (text : List ℕ) (ts : List Token) → Placed text at ts → (i j : ℕ) → i ≤ j → j < length ts → start_at ts i ≤ start_at ts j
 starts-rise text [] p i j l h = absurd (omega arith)
 starts-rise text (t ∷ ts) p zero zero l h = omega arith
 starts-rise text (t ∷ ts) p (suc i) zero l h = absurd (omega arith)
 starts-rise text (t ∷ ts) (next starts found some fits own rest) zero (suc j) l h = omega (arith, start-after text ts rest j (le_of_suc-le-suc h))
-starts-rise text (t ∷ ts) (next starts found some fits own rest) (suc i) (suc j) l h =
-    starts-rise text ts rest i j (le_of_suc-le-suc l) (le_of_suc-le-suc h)
+starts-rise {at = at} text (t ∷ ts) (next starts found some fits own rest) (suc i) (suc j) l h =
+    starts-rise {at = t.start + length t.bytes} text ts rest i j (le_of_suc-le-suc l) (le_of_suc-le-suc h)
 
 pub flat-tokens : {at : ℕ} (text : List ℕ) (ts : List Token) → Placed text at ts → OneLine text ts
 flat-tokens text [] p = tt
-flat-tokens text (t ∷ ts) (next starts found some fits own rest) =
-    (token-line text t.start t.kind (length t.bytes) found, flat-tokens text ts rest)
+flat-tokens {at = at} text (t ∷ ts) (next starts found some fits own rest) =
+    (token-line text t.start t.kind (length t.bytes) found, flat-tokens {at = t.start + length t.bytes} text ts rest)
 
 -- ---- their records
 

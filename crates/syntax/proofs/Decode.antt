@@ -37,15 +37,15 @@ module _ (text table : List ℕ) where
       → tokens_from text table i (length ts) ≡ ts
   unfolding tokens_from records
   from_is i [] after (none g) e = refl
-  from_is i (t ∷ ts) after (next g f p q r w) e =
-      ap₂ (λ (x : Token) (xs : List Token). x ∷ xs) (token-is i t (records ts ++ after) e r) (from_is (i + 1) ts after w (next-tail table i _ _ _ _ e))
+  from_is {at = at} i (t ∷ ts) after (next g f p q r w) e =
+      ap₂ (λ (x : Token) (xs : List Token). x ∷ xs) (token-is i t (records ts ++ after) e r) (from_is {at = t.start + length t.bytes} (i + 1) ts after w (next-tail table i _ _ _ _ e))
 
   within-is : {at : ℕ} (i : ℕ) (ts : List Token) (after : List ℕ) → Placed text at ts → drop (i * record_words) table ≡ records ts ++ after → (j : ℕ) → i ≤ j
       → j < i + length ts → (start_at table j < end_at table j) × (end_at table j ≤ length text)
   unfolding records
   within-is i [] after (none g) e j l u = absurd (omega arith)
-  within-is i (t ∷ ts) after (next g f p q r w) e j l u =
-      go (eq-or-lt_of_le l) (λ z. within-is (i + 1) ts after w (next-tail table i _ _ _ _ e) j (omega arith) (omega arith))
+  within-is {at = at} i (t ∷ ts) after (next g f p q r w) e j l u =
+      go (eq-or-lt_of_le l) (λ z. within-is {at = t.start + length t.bytes} (i + 1) ts after w (next-tail table i _ _ _ _ e) j (omega arith) (omega arith))
     where
       go : (i ≡ j) ⊎ (i < j) → (i < j → (start_at table j < end_at table j) × (end_at table j ≤ length text))
           → (start_at table j < end_at table j) × (end_at table j ≤ length text)

@@ -10,13 +10,15 @@ use lib.ListN.{length}
 use mir.Syntax.{named, erased, w64}
 use mir.Val.{Val, WT, has_ty, vint, vstruct, vcons, vnil}
 use base.Logic.{SProp, ent, sep, assoc∗}
-use base.Fml.{Lft, Fml, fsep, ftrue}
+use base.Fml.{Lft, Fml, fsep, ftrue, fbor}
 use types.Logic.{Logic, sem}
+use contract.Lifetimes.{Lfts}
 use contract.Monad.{fact}
 use types.Kit.{Item, Step, step, prop, ‵, ◌$◌, ◌∵◌, !, qed, move, use1, fjoin, feq_i, suffices, updating, now as at_once, done}
 use denote.Builtin.{u8, usize}
 use denote.Exit.{yes, no}
 use denote.Laws.{Is}
+use denote.Memory.{mem}
 use denote.Plain.{uint_Makes}
 use denote.RattleType.{RattleType}
 use denote.Ref.{MutBor}
@@ -25,6 +27,8 @@ use denote.Signature.Struct.{makes}
 use denote.Slice.{MutSlice, finally}
 use denote.Steps.{owned, nothing}
 use denote.Struct.Laws as LL
+use types.SemTy.{Body, Arr}
+use types.Hole.{Holey}
 use denote.Triple.Walked.{Stay, stay_dropped, Goes, says}
 use Rattle.writing.specs.declared.writer.Writer.{Writer}
 use Rattle.writing.specs.contracts.writer.Writer as T
@@ -47,9 +51,14 @@ module _ (n : ℕ) where
   abbrev pub writer-spent : Stay WriterS no
   writer-spent = stay_dropped WriterS no
 
-  -- the borrow went to a callee for good: what says its last list is had
+  -- the output's borrow at the writer's lifetime, closed
+  abbrev pub closed-borrow : Lfts (suc n) → Writer → Fml
+  closed-borrow κs w =
+      fbor (named_lft (suc n) 0 tt κs).lft (Body (Arr (Holey (mem u8)) (length w.out.now)) w.out.ref_ptr.0 w.out.ref_ptr.1 w.out.ghost_name)
+
+  -- the borrow went to a callee for good, which handed it back closed: what says its last list is had, and the borrow
   abbrev pub writer-gave : Stay WriterS yes
-  writer-gave = record { fit = λ κs w f. length f.0 ≡ length w.out.now; has = λ κs w f vs. finally u8 w.out.ghost_name f.0 }
+  writer-gave = record { fit = λ κs w f. length f.0 ≡ length w.out.now; has = λ κs w f vs. fsep (finally u8 w.out.ghost_name f.0) (closed-borrow κs w) }
 
 module _ {M : Type 1} {𝓤 : Ura M} (𝓛 : Logic 𝓤) where
   pub writer-spent-goes : (n : ℕ) → Goes 𝓛 (suc n) (WriterS n) no (writer-spent n)
@@ -57,19 +66,19 @@ module _ {M : Type 1} {𝓤 : Ura M} (𝓛 : Logic 𝓤) where
 
   pub writer-gave-goes : (n : ℕ) → Goes 𝓛 (suc n) (WriterS n) yes (writer-gave n)
   writer-gave-goes n κs w f vs fits =
-      qed 𝓛 (‵ (finally u8 w.out.ghost_name f.0) ∷ []) ∵ updating ! $ at_once ! $ feq_i ! ℕ (length f.0) (length w.out.now) fits $ move ! (1 ∷ 0 ∷ [])
-      $ fjoin ! $
+      qed 𝓛 (‵ (finally u8 w.out.ghost_name f.0) ∷ ‵ (closed-borrow n κs w) ∷ []) ∵ updating ! $ at_once ! $
+      feq_i ! ℕ (length f.0) (length w.out.now) fits $ move ! (1 ∷ 0 ∷ []) $ fjoin ! $ fjoin ! $
       nothing ! $ move ! (1 ∷ 0 ∷ []) $ fjoin ! $ done !
 
   module _ (κ : Lft) (x : MutBor (List ℕ)) (m : ℕ) (m-fits : m < 2 ^ 64) (s : Val) where
     abbrev parts : List Val × (List Val × Unit {0}) → Fml
     parts vss = fsep ((MutSlice (named 0) κ u8).own_val x vss.0) (fsep (usize.own_val m vss.1.0) ftrue)
 
-    pub writer-made : ent 𝓤 (sem 𝓛 ((MutSlice (named 0) κ u8).own_val x (s ∷ []))) (sem 𝓛 ((WriterT κ).own (record { out = x; at = m }) (mach s m ∷ [])))
+    pub writer-made : ent 𝓤 (sem 𝓛 ((MutSlice (named 0) κ u8).own_val x (s ∷ []))) (sem 𝓛 ((WriterT κ).own_val (record { out = x; at = m }) (mach s m ∷ [])))
     writer-made =
         qed 𝓛 (‵ ((MutSlice (named 0) κ u8).own_val x (s ∷ [])) ∷ []) ∵ nothing ! $ owned ! usize (Is usize) (uint_Makes 𝓛 w64) m _ (refl, m-fits)
         $ fjoin ! $ move ! (1 ∷ 0 ∷ []) $ fjoin ! $
-        use1 𝓛 (‵ ((WriterT κ).own (record { out = x; at = m }) (mach s m ∷ [])))
+        use1 𝓛 (‵ ((WriterT κ).own_val (record { out = x; at = m }) (mach s m ∷ [])))
         (makes 𝓛 (MutSlice (named 0) κ u8 ∷ usize ∷ []) parts (s ∷ [], (vint w64 m ∷ [], tt))) $ done !
 
   -- a local's type erases the lifetime

@@ -22,9 +22,9 @@ use Rattle.writing.proofs.Good.{Each, Good, lex-good}
 -- ---- counts
 
 -- one more, or the count that is at its end already
-one_more : (n k : ℕ) → n ≤ max_count → (one_more n ≤ max_count) × (min (one_more n + k) max_count ≡ min (n + suc k) max_count)
+one-more : (n k : ℕ) → n ≤ max_count → (one_more n ≤ max_count) × (min (one_more n + k) max_count ≡ min (n + suc k) max_count)
 unfolding one_more
-one_more n k h = go (ltb n max_count) refl
+one-more n k h = go (ltb n max_count) refl
   where
     go : (b : Bool) → ltb n max_count ≡ b → (cond b (suc n) n ≤ max_count) × (min (cond b (suc n) n + k) max_count ≡ min (n + suc k) max_count)
     go true e = let l = ltb-true n max_count e in (omega (arith, l), omega (arith, l))
@@ -33,12 +33,12 @@ one_more n k h = go (ltb n max_count) refl
 pub passed_is : (at : ℕ) (bs : List ℕ) → at ≤ max_count → passed at bs ≡ min (at + length bs) max_count
 unfolding passed
 passed_is at [] h = omega arith
-passed_is at (b ∷ bs) h = let o = one_more at (length bs) h in passed_is (one_more at) bs o.0 ∙ o.1
+passed_is at (b ∷ bs) h = let o = one-more at (length bs) h in passed_is (one_more at) bs o.0 ∙ o.1
 
 pub tallied-is : (n : ℕ) (ps : List Piece) → n ≤ max_count → tallied n ps ≡ min (n + length ps) max_count
 unfolding tallied
 tallied-is n [] h = omega arith
-tallied-is n (p ∷ ps) h = let o = one_more n (length ps) h in tallied-is (one_more n) ps o.0 ∙ o.1
+tallied-is n (p ∷ ps) h = let o = one-more n (length ps) h in tallied-is (one_more n) ps o.0 ∙ o.1
 
 -- a count never falls
 more-not-less : (n : ℕ) → n ≤ one_more n

@@ -193,7 +193,7 @@ abbrev held : ℤ → ℤ
 held e = to_z w32 (of_z w32 e)
 
 pub held-is : (e : ℤ) → is_near e ≡ true → held e ≡ e
-held-is e near = let l = near-mag e near in to_z-of_z (record { sfits = omega arith })
+held-is e near = let l = near-mag e near in to_z-of_z {w = w32} (record { sfits = omega arith })
 
 -- by its sign
 minus_is : (e : ℤ) → lt_z e (pos 0) ≡ true → e ≡ negsuc (mag e)
