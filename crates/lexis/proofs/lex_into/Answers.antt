@@ -11,7 +11,7 @@ loop-r-init c = lexing-first _ _ _ _ c.new-c.ensures
 
 pub put_record-requires : goal.put_record-requires
 put_record-requires c = let s = told c.args.text.now c.loop-r.c _ _ c.next.ensures c.in-Next.is in
-    record-room _ _ _ _ _ c.loop-r.invariant _ _ s c.requires.text_len_bound c.requires.text_in_bounds
+    let p = record-room _ _ _ _ _ c.loop-r.invariant _ _ s c.requires.text_len_bound c.requires.text_in_bounds in record { record_words_in_bounds = p.0; start_le_max_text = p.1 }
 
 pub mark-requires : goal.mark-requires
 mark-requires c = let s = told c.args.text.now c.loop-r.c _ _ c.next.ensures c.in-Next.is in
@@ -29,7 +29,7 @@ loop-r-preserved-in-Next c = let s = told c.args.text.now c.loop-r.c _ _ c.next.
 
 pub put_record-requires-in-Mark : goal.put_record-requires-in-Mark
 put_record-requires-in-Mark c = let s = told c.args.text.now c.loop-r.c _ _ c.next.ensures c.in-Mark.is in
-    record-room _ _ _ _ _ c.loop-r.invariant _ _ s c.requires.text_len_bound c.requires.text_in_bounds
+    let p = record-room _ _ _ _ _ c.loop-r.invariant _ _ s c.requires.text_len_bound c.requires.text_in_bounds in record { record_words_in_bounds = p.0; start_le_max_text = p.1 }
 
 pub bounds-text-at : goal.bounds-text-at
 bounds-text-at c = let s = told c.args.text.now c.loop-r.c _ _ c.next.ensures c.in-Mark.is in

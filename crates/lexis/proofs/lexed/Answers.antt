@@ -7,8 +7,8 @@ use borrow.Author.Rules.{rules}
 use Rattle.lexis.proofs.lexed.Goals as goal
 
 pub returns : goal.returns
-returns c = let e = (c.lex_into.ensures.value, (c.lex_into.ensures.recorded, c.lex_into.ensures.room)) in (
-      e.0,
+returns c = let e = c.lex_into.ensures in (
+      e.value,
       λ n q.
-          held (lex c.args.text.now) _ _ n (sym q ∙ e.0) e.1.0 (room_of _ n (length c.args.work.now) q e.1.1),
+          held (lex c.args.text.now) _ _ n (sym q ∙ e.value) e.recorded (room_of _ n (length c.args.work.now) q e.room),
     )

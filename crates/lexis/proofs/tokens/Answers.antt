@@ -19,6 +19,6 @@ unfolding class_table classes_from class_of
 tokens_within-requires c = record { classes_value = refl; text_len_bound = leb-true _ max_text (sym c.text_fits.ensures ∙ c.if-not-text_fits.false); table_words_in_bounds = leb-true table_words _ (sym c.table_serves.ensures ∙ c.if-not-table_serves.false) }
 
 pub returns : goal.returns
-returns c = let w = (c.tokens_within.ensures.value, c.tokens_within.ensures.table_after) in
+returns c = let w = c.tokens_within.ensures in
     let p = tokens-by c.args.text.now c.args.table.now (sym c.table_serves.ensures ∙ c.if-not-table_serves.false)
-    (sym c.text_fits.ensures ∙ c.if-not-text_fits.false) _ _ w.0 w.1 in record { value = p.0; table_after = p.1 }
+    (sym c.text_fits.ensures ∙ c.if-not-text_fits.false) _ _ w.value w.table_after in record { value = p.0; table_after = p.1 }

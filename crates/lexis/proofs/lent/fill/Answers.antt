@@ -40,8 +40,7 @@ line_after-line-requires c = let t = turn c.loop-from.invariant c.loop-from-test
 
 pub bounds-table-to : goal.bounds-table-to
 bounds-table-to c = let t = turn c.loop-from.invariant c.loop-from-test.true in
-    let put = c.put_words in
-    let long : length put.new.0 ≡ length c.loop-from.table = ap length put.ensures ∙ simp length-set refl in
+    let long : length c.put_words.new.area ≡ length c.loop-from.table = ap length c.put_words.ensures ∙ simp length-set refl in
     omega (arith, long, t.in_table c.requires.text_len_bound.1)
 
 pub overflow_cast-end : goal.overflow_cast-end

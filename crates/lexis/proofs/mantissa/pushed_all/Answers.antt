@@ -12,7 +12,7 @@ unfolding push_all
 loop-j-init c = (omega arith, refl, record { capped = c.requires.value_le_mantissa_end; few = omega arith })
 
 pub pushed-a-requires : goal.pushed-a-requires
-pushed-a-requires c = record { value_le_mantissa_end = c.loop-j.invariant.2.capped; zeros_bound = omega (arith, c.loop-j.invariant.2.few, (c.requires.n_in_bounds, (c.requires.n_le_max_number, (c.requires.value_le_mantissa_end, c.requires.zeros_le_max_number)))) }
+pushed-a-requires c = record { value_le_mantissa_end = c.loop-j.invariant.2.capped; zeros_bound = omega (arith, c.loop-j.invariant.2.few, c.requires.zeros_le_max_number, c.requires.n_le_max_number) }
 
 pub loop-j-preserved : goal.loop-j-preserved
 loop-j-preserved c = let at = c.loop-j in

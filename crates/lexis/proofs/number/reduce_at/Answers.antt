@@ -45,7 +45,7 @@ pub returns-then-not-is_near : goal.returns-then-not-is_near
 returns-then-not-is_near c = let parts = c.args.p in
     let place = c.args.at in
     let text = c.args.text.now in
-    let same : to_z w32 (of_z w32 c.exponent-e.result) ≡ c.exponent-e.result = to_z-of_z
+    let same : to_z w32 (of_z w32 c.exponent-e.result) ≡ c.exponent-e.result = to_z-of_z {w = w32}
     (record { sfits = c.exponent-e.type_inv }) in
     let near = c.exponent-e.ensures
     ∙ ap (λ (b : Bool). exponent_of b c.written_at-w.result c.points_of-points.result c.mantissa_at-m.result.zeros)
@@ -60,7 +60,7 @@ pub returns : goal.returns
 returns c = let parts = c.args.p in
     let place = c.args.at in
     let text = c.args.text.now in
-    let same : to_z w32 (of_z w32 c.exponent-e.result) ≡ c.exponent-e.result = to_z-of_z
+    let same : to_z w32 (of_z w32 c.exponent-e.result) ≡ c.exponent-e.result = to_z-of_z {w = w32}
     (record { sfits = c.exponent-e.type_inv }) in
     let near = c.exponent-e.ensures
     ∙ ap (λ (b : Bool). exponent_of b c.written_at-w.result c.points_of-points.result c.mantissa_at-m.result.zeros)

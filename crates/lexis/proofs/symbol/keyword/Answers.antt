@@ -42,6 +42,6 @@ unfolding leading retain terminals symbol_in
 returns-in-118 c = c.symbol_if-in-118.ensures ∙ sym (symbol-by c.args.w.now _ 118 c.byte_at-first.ensures c.in-118.is)
 
 pub returns-in_default : goal.returns-in_default
-returns-in_default c = let r = c.in_default-own.rest in
+returns-in_default c = let r = c.in_default.in_default-own.rest in
     symbol-none _ _ c.byte_at-first.ensures r.0.0.0.0.0.0.1 r.0.0.0.0.0.1 r.0.0.0.0.1 r.0.0.0.1 r.0.0.1 r.0.1
     r.1

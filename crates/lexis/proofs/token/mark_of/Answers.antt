@@ -6,6 +6,7 @@ use borrow.Author.Tests.{eq-eqb, ne_eqb}
 use mathlib.Core.Bool.{and-false}
 use Rattle.lexis.proofs.Marks.{mark-same, mark-equal, mark-alone, mark-pair, mark-arrow, mark-single, mark-double, mark-lone, mark-none}
 use Rattle.lexis.proofs.token.mark_of.Goals as goal
+use Rattle.lexis.proofs.token.mark_of.Goals.{then-b-eq61-2+else-takes_equal, else-b-eq61-2}
 
 pub returns-then-b-eq61 : goal.returns-then-b-eq61
 returns-then-b-eq61 c = mark-same _ _ _ c.requires c.if-a-eq61.true c.if-b-eq61.true
@@ -27,7 +28,9 @@ returns-else-a-eq45 c = mark-single _ _ _ c.requires c.if-k-eq-OPERATOR.true (rw
 
 pub returns-else-b-eq62 : goal.returns-else-b-eq62
 returns-else-b-eq62 c = mark-single _ _ _ c.requires c.if-k-eq-OPERATOR.true
-    (⊎_elim (λ w. rw (eq-eqb _ 61 w.0.taken, ← w.1.ensures, w.2.left)) (λ w. rw (ne_eqb _ 61 w.left)) c.if-b-eq61-2.branch)
+    (elim c.if-b-eq61-2.branch [
+      then-b-eq61-2+else-takes_equal w ↦ rw (eq-eqb _ 61 w.if-b-eq61-2.true, ← w.takes_equal.ensures, w.if-takes_equal.false)
+    | else-b-eq61-2 w ↦ rw (ne_eqb _ 61 w.if-b-eq61-2.false) ])
     (rw (ne_eqb _ 62 c.if-b-eq62.false, and-false))
 
 pub returns-then-b-a : goal.returns-then-b-a

@@ -21,6 +21,6 @@ unfolding begun keep words kind_in
 returns-in-118 c = c.kind_if-in-118.ensures ∙ sym (kind-by c.args.w.now 118 c.in-118.is)
 
 pub returns-in_default : goal.returns-in_default
-returns-in_default c = let l = c.in_default-own.rest.0 in
+returns-in_default c = let l = c.in_default.in_default-own.rest.0 in
     let f = l.0.0.0 in
-    none-else _ f.0.0.0.0.1 f.0.0.0.1 f.0.0.1 f.0.1 f.1 l.0.0.1 l.0.1 l.1 c.in_default-own.rest.1
+    none-else _ f.0.0.0.0.1 f.0.0.0.1 f.0.0.1 f.0.1 f.1 l.0.0.1 l.0.1 l.1 c.in_default.in_default-own.rest.1
