@@ -14,8 +14,8 @@ returns-in_default c = fell _ c.result-typed.ensures (param_is c.args.text.now c
 
 pub default-requires : goal.default-requires
 default-requires c = record { holds = c.requires; at_le_n = reaches (length c.args.text.now) c.args.n (typed_name max_brackets (toks c.args.text.now c.args.table.now c.args.n c.args.at))
-          c.result-typed.ensures c.type_inv.given.1 }
+          c.result-typed.ensures c.in-Done.is }
 
 pub returns : goal.returns
 returns c = went _ c.result-typed.ensures (param_is c.args.text.now c.args.table.now (length c.args.text.now) c.args.n c.args.at max_brackets)
-    c.type_inv.given.1 c.default.ensures
+    c.in-Done.is c.default.ensures

@@ -8,13 +8,13 @@ use borrow.Author.Rules.{rules}
 use Rattle.syntax.proofs.value.value.Goals as goal
 
 pub overflow_add-result : goal.overflow_add-result
-overflow_add-result c = let e = sym c.is_IsLeaf.ensures ∙ c.if-is_leaf.true in
+overflow_add-result c = let e = sym c.is_leaf.ensures ∙ c.if-is_leaf.true in
     let h = leaf-stands c.args.text.now c.args.table.now 0 c.args.n c.args.at c.symbol_at-s.ensures (leaves_of c.args.leaves) e in
     search rules
 
 pub returns-then-is_leaf : goal.returns-then-is_leaf
 returns-then-is_leaf c = at_leaf c.args.text.now c.args.table.now (length c.args.text.now) c.args.n c.args.at c.symbol_at-s.ensures (leaves_of c.args.leaves) c.args.room
-    (sym c.is_IsLeaf.ensures ∙ c.if-is_leaf.true)
+    (sym c.is_leaf.ensures ∙ c.if-is_leaf.true)
 
 pub returns-then-n-at : goal.returns-then-n-at
 returns-then-n-at c = let h = c.if-n-at.true in
