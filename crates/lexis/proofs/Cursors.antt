@@ -14,7 +14,7 @@ use Rattle.lexis.specs.Sizes.{max_tokens}
 use Rattle.lexis.specs.Kind.{IsKind}
 use Rattle.lexis.specs.Bytes.{class_of, span_len, gap_from, gap_len}
 use Rattle.lexis.specs.Lexeme.{lexeme}
-use Rattle.lexis.specs.Lexer.{Token, Lexed, accepted, refused, prepend, lex_from}
+use Rattle.lexis.specs.Lexer.{Lexed, accepted, refused, prepend, lex_from}
 use Rattle.lexis.specs.Runs.{passes}
 use Rattle.lexis.specs.Steps.{step_to, gap_to, step_at}
 use Rattle.lexis.specs.declared.token.Lexeme.{Lexeme}

@@ -12,7 +12,7 @@ use lib.ListN.{length, take, drop, get_or, length-take}
 use lib.Seq.{take-add, drop-cons, get_or-drop, get_or-take}
 use borrow.Author.Tests.{eq-eqb, ne_eqb, eqb-true}
 use Rattle.lexis.specs.Sizes.{max_name, max_string, max_number}
-use Rattle.lexis.specs.Bytes.{among, class_of, is_digit, is_name_part, is_content, span_len}
+use Rattle.lexis.specs.Bytes.{class_of, is_digit, is_name_part, is_content, span_len}
 use Rattle.lexis.specs.Number.{digits, led, frac_len, sign_len, is_e, exp_len, parts_of, parts_len, sticks, in_range}
 use Rattle.lexis.specs.Lexeme.{number_lexeme, word_lexeme, string_lexeme, takes_equal, is_pair, is_arrow, mark_lexeme, lexeme}
 use Rattle.lexis.specs.Line.{line_feeds, line_of, NoFeed}

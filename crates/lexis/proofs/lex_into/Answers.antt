@@ -1,9 +1,7 @@
 use mathlib.Core.Path.{refl}
-use Prim.Native.Nat.{◌-◌}
 use native.Mathlib.Omega.{arith}
 use lib.ListN.{length}
-use borrow.Author.Rules.{rules}
-use Rattle.lexis.proofs.Pass.{told, Lexing, lexing-first, record-room, mark-room, lexing-next, lexing-mark, lexing-gap, lexing-end, lexing-fault}
+use Rattle.lexis.proofs.Pass.{told, lexing-first, record-room, mark-room, lexing-next, lexing-mark, lexing-gap, lexing-end, lexing-fault}
 use Rattle.lexis.proofs.lex_into.Goals as goal
 
 pub loop-r-init : goal.loop-r-init
@@ -15,8 +13,13 @@ put_record-requires c = let s = told c.args.text.now c.loop-r.c _ _ c.next.ensur
 
 pub mark-requires : goal.mark-requires
 mark-requires c = let s = told c.args.text.now c.loop-r.c _ _ c.next.ensures c.in-Next.is in
-  record { kind = s.kinded; start_lt_end = s.some; end_in_bounds = s.inside; i_in_bounds = mark-room _ _ _ _ _ c.loop-r.invariant _ _ _ s c.requires.text_in_bounds
-              c.put_record.ensures }
+    record {
+      kind = s.kinded;
+      start_lt_end = s.some;
+      end_in_bounds = s.inside;
+      i_in_bounds = mark-room _ _ _ _ _ c.loop-r.invariant _ _ _ s c.requires.text_in_bounds
+          c.put_record.ensures;
+    }
 
 pub loop-r-smaller-in-Next : goal.loop-r-smaller-in-Next
 loop-r-smaller-in-Next c = let s = told c.args.text.now c.loop-r.c _ _ c.next.ensures c.in-Next.is in

@@ -1,11 +1,8 @@
 -- What the loop keeps is `Lexing`: the tokens of the text are those written so far, and then those from the cursor on. Each turn moves the
 -- cursor, and a token takes at least a byte, so that the records found so far have room.
-use mathlib.Core.Path.{refl}
 use Prim.Native.Nat.{◌-◌}
-use native.Mathlib.Omega.{arith}
 use lib.ListN.{length}
-use borrow.Author.Rules.{rules}
-use Rattle.lexis.proofs.Pass.{told, Lexing, lexing-first, record-room, mark-room, lexing-next, lexing-mark, lexing-gap, lexing-end, lexing-fault}
+use Rattle.lexis.proofs.Pass.{Lexing}
 use Rattle.lexis.proofs.lex_into.Given as goal
 
 abbrev pub invariant-loop-r : goal.invariant-loop-r

@@ -3,7 +3,6 @@ use mathlib.Core.Path.{sym, ap, ◌∙◌}
 use Rattle.lexis.specs.Answer.{answer_of}
 use Rattle.lexis.specs.Lexer.{lex}
 use Rattle.lexis.proofs.Answers.{kept-by-fault}
-use borrow.Author.Rules.{rules}
 use Rattle.lexis.proofs.listed.Goals as goal
 
 pub fill-requires : goal.fill-requires
@@ -14,4 +13,4 @@ returns-in-Tokens c = record { value = ap answer_of (sym c.in-Tokens.is ∙ c.re
 
 pub returns-in-Fault : goal.returns-in-Fault
 returns-in-Fault c = let e = sym c.in-Fault.is ∙ c.requires.found.0 in
-  record { value = ap answer_of e; table_after = kept-by-fault (lex c.args.text.now) _ _ c.args.text.now c.args.table.now e }
+    record { value = ap answer_of e; table_after = kept-by-fault (lex c.args.text.now) _ _ c.args.text.now c.args.table.now e }

@@ -1,8 +1,6 @@
 -- Without the flag nothing is written; with it the mark has room.
 use mathlib.Core.Path.{refl}
 use native.Mathlib.Omega.{arith}
-use borrow.Author.Rules.{rules}
-use borrow.Author.Tests.{not-true, not-false}
 use Rattle.lexis.proofs.Laid.{mark-none, mark-some}
 use Rattle.lexis.proofs.put_mark.Goals as goal
 

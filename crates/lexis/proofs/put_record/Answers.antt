@@ -1,6 +1,5 @@
 -- A record's words, as numbers of 32 bits.
 use mathlib.Core.Path.{◌∙◌}
-use borrow.Author.Rules.{rules}
 use Rattle.lexis.proofs.put_record.Goals as goal
 
 pub returns : goal.returns

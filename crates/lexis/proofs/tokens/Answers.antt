@@ -1,7 +1,6 @@
 -- A short table, a long text, and what the bytes give. The table of classes is computed here, once.
 use mathlib.Core.Path.{refl, sym, ◌∙◌}
-use borrow.Author.Rules.{rules}
-use borrow.Author.Tests.{not-true, not-false, leb-true}
+use borrow.Author.Tests.{leb-true}
 use Rattle.lexis.specs.Sizes.{max_text, table_words}
 use Rattle.lexis.specs.Bytes.{class_of, classes_from, class_table}
 use Rattle.lexis.proofs.Answers.{short-table, long-text, tokens-by}

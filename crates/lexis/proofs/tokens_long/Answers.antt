@@ -1,7 +1,6 @@
 -- A work area for 4096 tokens has room for those of any text.
 use mathlib.Core.Path.{refl}
 use Rattle.lexis.proofs.Answers.{room_for}
-use borrow.Author.Rules.{rules}
 use Rattle.lexis.proofs.tokens_long.Goals as goal
 
 pub lexed-found-requires : goal.lexed-found-requires

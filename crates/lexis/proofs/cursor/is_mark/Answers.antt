@@ -1,7 +1,6 @@
 -- One law of `Lexemes` for each syntactic character that stands alone.
 use mathlib.Core.Path.{◌∙◌}
 use mathlib.Core.Bool.{false≢true}
-use borrow.Author.Rules.{rules}
 use borrow.Author.Tests.{not-true, eqb-false}
 use Rattle.lexis.proofs.Lexemes.{alone-here, equal-here}
 use Rattle.lexis.proofs.cursor.is_mark.Goals as goal

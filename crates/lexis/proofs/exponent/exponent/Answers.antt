@@ -1,6 +1,5 @@
 -- The sum and the difference fit an i32, as the written exponent is at most 9999 and the two counts at most 64.
 use mathlib.Core.Path.{sym, ◌∙◌}
-use borrow.Author.Rules.{rules}
 use Rattle.lexis.proofs.Signs.{signed_sub, diff-fits, sum_fits, sum_is, cond_small}
 use Prim.Native.Nat.{zero-le}
 use Rattle.lexis.proofs.exponent.exponent.Goals as goal

@@ -1,7 +1,6 @@
 -- The two comparisons of the code are those of `is_near`.
 use mathlib.Core.Path.{◌≡◌, sym, ap, ◌∙◌}
 use mathlib.Core.Bool.{true, false}
-use borrow.Author.Rules.{rules}
 use Rattle.lexis.specs.Number.{is_near}
 use Rattle.lexis.proofs.Signs.{not_lt_z}
 use mir.Facts.{to_z-of_z}

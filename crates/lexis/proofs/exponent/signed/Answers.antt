@@ -2,7 +2,6 @@
 use mathlib.Core.Path.{◌∙◌}
 use mathlib.Core.Bool.{true, false}
 use native.Mathlib.Omega.{arith}
-use borrow.Author.Rules.{rules}
 use Rattle.lexis.proofs.Signs.{signed_sub, neg_is, sub-fits, back, small-sub}
 use Rattle.lexis.proofs.exponent.signed.Goals as goal
 

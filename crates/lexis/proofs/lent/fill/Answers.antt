@@ -1,10 +1,9 @@
 use mathlib.Core.Path.{◌≡◌, refl, ap, ◌∙◌}
 use mathlib.Core.List.{List}
-use Prim.Native.Nat.{ℕ, ◌+◌, ◌-◌}
+use Prim.Native.Nat.{ℕ, ◌+◌}
 use native.Mathlib.Omega.{arith}
 use lib.ListN.{length, set, length-set}
-use Rattle.lexis.proofs.Filling.{Filling, filling-first, turn, filled}
-use borrow.Author.Rules.{rules}
+use Rattle.lexis.proofs.Filling.{filling-first, turn, filled}
 use Rattle.lexis.proofs.lent.fill.Goals as goal
 
 pub overflow_mul-words : goal.overflow_mul-words
@@ -36,7 +35,7 @@ overflow_cast-start c = let t = turn c.loop-from.invariant c.loop-from-test.true
 
 pub line_after-line-requires : goal.line_after-line-requires
 line_after-line-requires c = let t = turn c.loop-from.invariant c.loop-from-test.true in
-  record { to_in_bounds = (t.starts, c.requires.text_len_bound.0); from_le_to = (t.after, t.low) }
+    record { to_in_bounds = (t.starts, c.requires.text_len_bound.0); from_le_to = (t.after, t.low) }
 
 pub bounds-table-to : goal.bounds-table-to
 bounds-table-to c = let t = turn c.loop-from.invariant c.loop-from-test.true in

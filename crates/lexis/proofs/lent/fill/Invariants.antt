@@ -1,11 +1,6 @@
 -- Every turn puts one record, with its line.
-use mathlib.Core.Path.{◌≡◌, refl, ap, ◌∙◌}
-use mathlib.Core.List.{List}
-use Prim.Native.Nat.{ℕ, ◌+◌, ◌-◌}
-use native.Mathlib.Omega.{arith}
-use lib.ListN.{length, set, length-set}
-use Rattle.lexis.proofs.Filling.{Filling, filling-first, turn, filled}
-use borrow.Author.Rules.{rules}
+use Prim.Native.Nat.{◌-◌}
+use Rattle.lexis.proofs.Filling.{Filling}
 use Rattle.lexis.proofs.lent.fill.Given as goal
 
 abbrev pub invariant-loop-from : goal.invariant-loop-from

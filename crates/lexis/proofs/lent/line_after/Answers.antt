@@ -5,7 +5,6 @@ use native.Mathlib.Omega.{arith}
 use lib.ListN.{take, drop}
 use Rattle.lexis.specs.Line.{line_feeds}
 use Rattle.lexis.proofs.Lines.{feeds-feed, feeds-other, feeds-none}
-use borrow.Author.Rules.{rules}
 use Rattle.lexis.proofs.lent.line_after.Goals as goal
 
 pub returns-then-from-to : goal.returns-then-from-to

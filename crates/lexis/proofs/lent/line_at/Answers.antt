@@ -1,11 +1,9 @@
 use mathlib.Core.Path.{◌≡◌, refl, ap}
-use mathlib.Core.Logic.{⊎_elim}
-use Prim.Native.Nat.{ℕ, ◌+◌, ◌-◌, ◌≤◌}
+use Prim.Native.Nat.{ℕ, ◌-◌}
 use native.Mathlib.Omega.{arith}
 use lib.ListN.{take, drop}
 use Rattle.lexis.specs.Line.{line_feeds}
 use Rattle.lexis.proofs.Lines.{feeds-feed, feeds-other, feeds-none}
-use borrow.Author.Rules.{rules}
 use Rattle.lexis.proofs.lent.line_at.Goals as goal
 use Rattle.lexis.proofs.lent.line_at.Goals.{then-text-i-eq10, else-text-i-eq10}
 
@@ -17,10 +15,11 @@ loop-i-preserved c = let l = c.loop-i.invariant in
     let h = c.loop-i-test.true in
     let s = c.args.text.now in
     elim c.if-text-i-eq10.branch [
-      then-text-i-eq10 w ↦
-        (omega (arith, w.there-is, l.0), omega (arith, w.there-is, l.1, feeds-feed s c.loop-i.i c.args.to h c.requires.to_in_bounds.0 w.if-text-i-eq10.true))
-    | else-text-i-eq10 w ↦
-        (omega (arith, w.there-is, l.0), omega (arith, w.there-is, l.1, feeds-other s c.loop-i.i c.args.to h c.requires.to_in_bounds.0 w.if-text-i-eq10.false)) ]
+      | then-text-i-eq10 w ↦
+          (omega (arith, w.there-is, l.0), omega (arith, w.there-is, l.1, feeds-feed s c.loop-i.i c.args.to h c.requires.to_in_bounds.0 w.if-text-i-eq10.true))
+      | else-text-i-eq10 w ↦
+          (omega (arith, w.there-is, l.0), omega (arith, w.there-is, l.1, feeds-other s c.loop-i.i c.args.to h c.requires.to_in_bounds.0 w.if-text-i-eq10.false))
+    ]
 
 pub returns : goal.returns
 returns c = let rest = drop c.loop-i.i c.args.text.now in

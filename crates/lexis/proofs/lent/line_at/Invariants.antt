@@ -1,12 +1,8 @@
 -- What is counted here and what is left to count are what there is to count from the start.
-use mathlib.Core.Path.{◌≡◌, refl, ap}
-use mathlib.Core.Logic.{⊎_elim}
-use Prim.Native.Nat.{ℕ, ◌+◌, ◌-◌, ◌≤◌}
-use native.Mathlib.Omega.{arith}
+use mathlib.Core.Path.{◌≡◌}
+use Prim.Native.Nat.{◌+◌, ◌-◌, ◌≤◌}
 use lib.ListN.{take, drop}
 use Rattle.lexis.specs.Line.{line_feeds}
-use Rattle.lexis.proofs.Lines.{feeds-feed, feeds-other, feeds-none}
-use borrow.Author.Rules.{rules}
 use Rattle.lexis.proofs.lent.line_at.Given as goal
 
 abbrev pub invariant-loop-i : goal.invariant-loop-i

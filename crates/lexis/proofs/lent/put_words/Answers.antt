@@ -2,7 +2,6 @@
 use mathlib.Core.Path.{refl}
 use native.Mathlib.Omega.{arith}
 use lib.ListN.{length-set}
-use borrow.Author.Rules.{rules}
 use Rattle.lexis.proofs.lent.put_words.Goals as goal
 
 pub bounds-area-i-2 : goal.bounds-area-i-2

@@ -1,9 +1,5 @@
 use mathlib.Core.Path.{◌≡◌, refl}
-use Prim.Native.Nat.{◌-◌, ◌≤◌, min}
 use native.Mathlib.Omega.{arith}
-use lib.ListN.{drop, take}
-use borrow.Author.Rules.{rules}
-use Rattle.lexis.specs.Sizes.{written_end}
 use Rattle.lexis.specs.Number.{value_from}
 use Rattle.lexis.proofs.Caps.{value-more}
 use Rattle.lexis.proofs.mantissa.capped_value.Goals as goal

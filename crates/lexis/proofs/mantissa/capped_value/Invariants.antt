@@ -1,12 +1,9 @@
 -- After j turns v is the number that the first j digits spell, capped.
-use mathlib.Core.Path.{◌≡◌, refl}
+use mathlib.Core.Path.{◌≡◌}
 use Prim.Native.Nat.{◌-◌, ◌≤◌, min}
-use native.Mathlib.Omega.{arith}
 use lib.ListN.{drop, take}
-use borrow.Author.Rules.{rules}
 use Rattle.lexis.specs.Sizes.{written_end}
 use Rattle.lexis.specs.Number.{value_from}
-use Rattle.lexis.proofs.Caps.{value-more}
 use Rattle.lexis.proofs.mantissa.capped_value.Given as goal
 
 abbrev pub invariant-loop-j : goal.invariant-loop-j

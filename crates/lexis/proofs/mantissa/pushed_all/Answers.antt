@@ -1,10 +1,8 @@
 use mathlib.Core.Path.{◌≡◌, refl}
-use Prim.Native.Nat.{◌+◌, ◌-◌, ◌≤◌}
+use Prim.Native.Nat.{◌+◌}
 use native.Mathlib.Omega.{arith}
-use lib.ListN.{drop, take}
-use borrow.Author.Rules.{rules}
 use Rattle.lexis.specs.Push.{push_all}
-use Rattle.lexis.proofs.Caps.{Bounded, push-bounded, push-more}
+use Rattle.lexis.proofs.Caps.{push-bounded, push-more}
 use Rattle.lexis.proofs.mantissa.pushed_all.Goals as goal
 
 pub loop-j-init : goal.loop-j-init

@@ -1,11 +1,9 @@
 -- After j turns the first j digits are read, and there are at most j zeros more than at the start.
-use mathlib.Core.Path.{◌≡◌, refl}
+use mathlib.Core.Path.{◌≡◌}
 use Prim.Native.Nat.{◌+◌, ◌-◌, ◌≤◌}
-use native.Mathlib.Omega.{arith}
 use lib.ListN.{drop, take}
-use borrow.Author.Rules.{rules}
 use Rattle.lexis.specs.Push.{push_all}
-use Rattle.lexis.proofs.Caps.{Bounded, push-bounded, push-more}
+use Rattle.lexis.proofs.Caps.{Bounded}
 use Rattle.lexis.proofs.mantissa.pushed_all.Given as goal
 
 abbrev pub invariant-loop-j : goal.invariant-loop-j

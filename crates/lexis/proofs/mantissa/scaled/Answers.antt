@@ -1,8 +1,5 @@
 use mathlib.Core.Path.{◌≡◌}
-use Prim.Native.Nat.{◌-◌, ◌*◌, ◌≤◌, ◌^◌, min}
 use native.Mathlib.Omega.{arith}
-use borrow.Author.Rules.{rules}
-use Rattle.lexis.specs.Sizes.{mantissa_end}
 use Rattle.lexis.proofs.Caps.{scale-none, scale-more}
 use Rattle.lexis.proofs.mantissa.scaled.Goals as goal
 

@@ -1,10 +1,7 @@
 -- After i turns v is x times ten to the i, capped.
 use mathlib.Core.Path.{◌≡◌}
 use Prim.Native.Nat.{◌-◌, ◌*◌, ◌≤◌, ◌^◌, min}
-use native.Mathlib.Omega.{arith}
-use borrow.Author.Rules.{rules}
 use Rattle.lexis.specs.Sizes.{mantissa_end}
-use Rattle.lexis.proofs.Caps.{scale-none, scale-more}
 use Rattle.lexis.proofs.mantissa.scaled.Given as goal
 
 abbrev pub invariant-loop-i : goal.invariant-loop-i

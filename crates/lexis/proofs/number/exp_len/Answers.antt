@@ -3,8 +3,6 @@ use mathlib.Core.Path.{sym, ap, ◌∙◌}
 use Prim.Native.Nat.{◌+◌}
 use native.Mathlib.Omega.{arith}
 use lib.ListN.{drop}
-use borrow.Author.Rules.{rules}
-use borrow.Author.Tests.{not-true, not-false}
 use Rattle.lexis.specs.Number.{is_e}
 use Rattle.lexis.proofs.Shapes.{sign_small, exp-none, exp-bare, exp-some}
 use Rattle.lexis.proofs.number.exp_len.Goals as goal

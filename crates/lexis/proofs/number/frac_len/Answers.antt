@@ -1,6 +1,5 @@
 -- The cases of `frac_len`: no point, no digits after it, some.
 use mathlib.Core.Path.{sym, ◌∙◌}
-use borrow.Author.Rules.{rules}
 use Rattle.lexis.proofs.Shapes.{frac-none, frac-bare, frac-some}
 use Rattle.lexis.proofs.number.frac_len.Goals as goal
 

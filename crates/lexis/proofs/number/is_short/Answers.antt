@@ -1,6 +1,5 @@
 -- Too many bytes before the exponent, or else the exponent decides.
 use native.Mathlib.Omega.{arith}
-use borrow.Author.Rules.{rules}
 use Rattle.lexis.proofs.Ranges.{few-not, few-then}
 use Rattle.lexis.proofs.number.is_short.Goals as goal
 

@@ -1,5 +1,4 @@
 -- The byte after the e.
-use borrow.Author.Rules.{rules}
 use Rattle.lexis.proofs.Exponents.{minus-none, minus-some}
 use Rattle.lexis.proofs.number.minus_at.Goals as goal
 

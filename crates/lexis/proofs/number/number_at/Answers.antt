@@ -1,8 +1,7 @@
 -- One law of `Shapes` for each answer. The number's own bytes have the parts that were found in the text.
 use mathlib.Core.Path.{sym, ◌∙◌}
 use native.Mathlib.Omega.{arith}
-use borrow.Author.Rules.{rules}
-use borrow.Author.Tests.{not-true, not-false, leb-true}
+use borrow.Author.Tests.{leb-true}
 use native.Mathlib.Nat.{le_of_lt}
 use Rattle.lexis.specs.Sizes.{max_number}
 use Rattle.lexis.proofs.Shapes.{parts_in, number-long, number-out, number-whole, number-real, part-short, is-good, is_stuck}
@@ -43,7 +42,7 @@ pub in_range-requires : goal.in_range-requires
 in_range-requires c = let place = c.args.at in
     let text = c.args.text.now in
     let good = is-good text place _ _ c.shape_at.ensures c.in-Good.is in
-  record { classes_value = c.requires.classes_value; w_len_bound = part-short text place _ (leb-true _ max_number (sym c.number_fits.ensures ∙ c.if-not-number_fits.false)); p_value = parts-own text place _ good.is }
+    record { classes_value = c.requires.classes_value; w_len_bound = part-short text place _ (leb-true _ max_number (sym c.number_fits.ensures ∙ c.if-not-number_fits.false)); p_value = parts-own text place _ good.is }
 
 pub returns-then-not-in_range : goal.returns-then-not-in_range
 returns-then-not-in_range c = let place = c.args.at in

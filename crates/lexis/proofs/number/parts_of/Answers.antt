@@ -1,7 +1,6 @@
 -- The parts one after the other, each found where the one before ends.
 use native.Mathlib.Omega.{arith}
 use Prim.Native.Nat.{zero-le}
-use borrow.Author.Rules.{rules}
 use Rattle.lexis.specs.Bytes.{is_digit}
 use Rattle.lexis.proofs.Positions.{run_in}
 use Rattle.lexis.proofs.Shapes.{frac-in, parts-front}
@@ -12,14 +11,14 @@ frac_len-frac-requires c = record { classes_value = c.requires; at_in_bounds = r
 
 pub overflow_add-whole : goal.overflow_add-whole
 overflow_add-whole c = omega (
-      arith,
-      frac-in c.args.w.now _ _ c.frac_len-frac.ensures
-          (run_in is_digit c.args.w.now 0 _ c.run_end-whole.ensures zero-le),
-    )
+  arith,
+  frac-in c.args.w.now _ _ c.frac_len-frac.ensures
+      (run_in is_digit c.args.w.now 0 _ c.run_end-whole.ensures zero-le),
+)
 
 pub exp_len-exp-requires : goal.exp_len-exp-requires
 exp_len-exp-requires c = let w = c.args.w.now in
-  record { classes_value = c.requires; at_in_bounds = frac-in w _ _ c.frac_len-frac.ensures (run_in is_digit w 0 _ c.run_end-whole.ensures zero-le) }
+    record { classes_value = c.requires; at_in_bounds = frac-in w _ _ c.frac_len-frac.ensures (run_in is_digit w 0 _ c.run_end-whole.ensures zero-le) }
 
 pub returns : goal.returns
 returns c = parts-front c.args.w.now _ _ _ c.run_end-whole.ensures c.frac_len-frac.ensures

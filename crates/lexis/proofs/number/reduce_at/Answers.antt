@@ -4,8 +4,6 @@ use mathlib.Core.Bool.{Bool}
 use Prim.Native.Nat.{ℕ}
 use native.Mathlib.Omega.{arith}
 use lib.ListN.{drop}
-use borrow.Author.Rules.{rules}
-use borrow.Author.Tests.{not-true, not-false}
 use mir.Val.{to_z, of_z}
 use mir.Syntax.{w32}
 use mir.Facts.{to_z-of_z}
@@ -32,14 +30,18 @@ returns-then-value-ge-MANTISSA_END c = out-mantissa (drop c.args.at c.args.text.
 
 pub overflow_cast-zeros : goal.overflow_cast-zeros
 overflow_cast-zeros c = omega (
-      arith,
-      zeros-small (drop c.args.at c.args.text.now) c.args.p c.mantissa_at-m.result c.mantissa_at-m.ensures
-          c.requires.exp_bound,
-    )
+  arith,
+  zeros-small (drop c.args.at c.args.text.now) c.args.p c.mantissa_at-m.result c.mantissa_at-m.ensures
+      c.requires.exp_bound,
+)
 
 pub exponent-e-requires : goal.exponent-e-requires
-exponent-e-requires c = record { w_le_max_written = c.if-w-gt-WRITTEN.false; points_le_max_number = omega arith; zeros_le_max_number = zeros-small (drop c.args.at c.args.text.now) c.args.p c.mantissa_at-m.result c.mantissa_at-m.ensures
-            c.requires.exp_bound }
+exponent-e-requires c = record {
+  w_le_max_written = c.if-w-gt-WRITTEN.false;
+  points_le_max_number = omega arith;
+  zeros_le_max_number = zeros-small (drop c.args.at c.args.text.now) c.args.p c.mantissa_at-m.result c.mantissa_at-m.ensures
+      c.requires.exp_bound;
+}
 
 pub returns-then-not-is_near : goal.returns-then-not-is_near
 returns-then-not-is_near c = let parts = c.args.p in

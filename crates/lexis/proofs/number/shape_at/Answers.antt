@@ -1,8 +1,6 @@
 -- One law of `Shapes` for each answer: a byte that does not stick ends the number.
 use mathlib.Core.Path.{sym, ◌∙◌}
 use native.Mathlib.Omega.{arith}
-use borrow.Author.Rules.{rules}
-use borrow.Author.Tests.{not-true}
 use Rattle.lexis.specs.Bytes.{is_digit}
 use Rattle.lexis.proofs.Positions.{run_in}
 use Rattle.lexis.proofs.Shapes.{frac-in, exp_in, shape-whole, shape-frac, shape-exp, shape-stuck}
@@ -25,7 +23,7 @@ returns-then-not-sticks_at-2 c = shape-frac c.args.text.now c.args.at _ c.run_en
 
 pub exp_len-exp-requires : goal.exp_len-exp-requires
 exp_len-exp-requires c = let text = c.args.text.now in
-  record { classes_value = c.requires.classes_value; at_in_bounds = frac-in text _ _ c.frac_len-frac.ensures (run_in is_digit text c.args.at _ c.run_end-end.ensures c.requires.at_in_bounds) }
+    record { classes_value = c.requires.classes_value; at_in_bounds = frac-in text _ _ c.frac_len-frac.ensures (run_in is_digit text c.args.at _ c.run_end-end.ensures c.requires.at_in_bounds) }
 
 pub overflow_add-mid-2 : goal.overflow_add-mid-2
 overflow_add-mid-2 c = let text = c.args.text.now in

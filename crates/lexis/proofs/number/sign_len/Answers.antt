@@ -1,6 +1,5 @@
 -- The cases of `sign_len`.
 use mathlib.Core.Path.{sym, ◌∙◌}
-use borrow.Author.Rules.{rules}
 use Rattle.lexis.proofs.Shapes.{sign-plus, sign-minus, sign-none}
 use Rattle.lexis.proofs.number.sign_len.Goals as goal
 

@@ -1,5 +1,4 @@
 -- Past the end stands 0, which does not stick.
-use borrow.Author.Rules.{rules}
 use lib.ListN.{get_or-eq_default}
 use Rattle.lexis.specs.Bytes.{class_of}
 use Rattle.lexis.specs.Number.{sticks}

@@ -1,5 +1,4 @@
 -- The cases of `sticks`.
-use borrow.Author.Rules.{rules}
 use borrow.Author.Tests.{eq-eqb, ne_eqb}
 use Rattle.lexis.specs.Number.{sticks}
 use Rattle.lexis.proofs.number.sticks_to.Goals as goal

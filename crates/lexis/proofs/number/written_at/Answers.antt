@@ -1,7 +1,6 @@
 -- The digits after the sign, which lie within the number.
 use mathlib.Core.Path.{refl}
 use native.Mathlib.Omega.{arith}
-use borrow.Author.Rules.{rules}
 use Rattle.lexis.proofs.Exponents.{written_none, written-some, from_in, digits_in}
 use Rattle.lexis.proofs.number.written_at.Goals as goal
 

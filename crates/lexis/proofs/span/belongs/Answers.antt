@@ -1,5 +1,4 @@
 -- Each run, by the class of the byte or by its bounds.
-use borrow.Author.Rules.{rules}
 use borrow.Author.Tests.{le-leb, lt-leb, eq-eqb, ne_eqb}
 use Rattle.lexis.proofs.span.belongs.Goals as goal
 

@@ -1,10 +1,6 @@
-use mathlib.Core.Path.{◌≡◌, refl, sym, ◌∙◌}
-use Prim.Native.Nat.{◌+◌, ◌-◌, ◌≤◌}
+use mathlib.Core.Path.{refl, sym, ◌∙◌}
+use Prim.Native.Nat.{◌+◌}
 use native.Mathlib.Omega.{arith}
-use lib.ListN.{length, drop}
-use borrow.Author.Rules.{rules}
-use borrow.Author.Tests.{not-true, not-false}
-use Rattle.lexis.specs.Bytes.{span_len}
 use Rattle.lexis.specs.Runs.{passes}
 use Rattle.lexis.proofs.Runs.{span-stop, span-step}
 use Rattle.lexis.proofs.span.long_run_end.Goals as goal

@@ -1,13 +1,9 @@
 -- The end of the run from here is that from the start; four bytes at a turn.
-use mathlib.Core.Path.{◌≡◌, refl, sym, ◌∙◌}
+use mathlib.Core.Path.{◌≡◌}
 use Prim.Native.Nat.{◌+◌, ◌-◌, ◌≤◌}
-use native.Mathlib.Omega.{arith}
 use lib.ListN.{length, drop}
-use borrow.Author.Rules.{rules}
-use borrow.Author.Tests.{not-true, not-false}
 use Rattle.lexis.specs.Bytes.{span_len}
 use Rattle.lexis.specs.Runs.{passes}
-use Rattle.lexis.proofs.Runs.{span-stop, span-step}
 use Rattle.lexis.proofs.span.long_run_end.Given as goal
 
 abbrev pub invariant-loop-i : goal.invariant-loop-i

@@ -1,10 +1,4 @@
-use mathlib.Core.Path.{◌≡◌, refl, sym, ◌∙◌}
-use Prim.Native.Nat.{◌+◌, ◌-◌}
-use lib.ListN.{length, drop}
-use borrow.Author.Rules.{rules}
-use borrow.Author.Tests.{not-true, not-false}
-use Rattle.lexis.specs.Bytes.{span_len}
-use Rattle.lexis.specs.Runs.{passes}
+use mathlib.Core.Path.{refl, sym, ◌∙◌}
 use Rattle.lexis.proofs.Runs.{span_more, span-stop, span-end}
 use Rattle.lexis.proofs.span.run_end.Goals as goal
 

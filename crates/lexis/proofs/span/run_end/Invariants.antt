@@ -1,12 +1,9 @@
 -- The end of the run from here is that from the start.
-use mathlib.Core.Path.{◌≡◌, refl, sym, ◌∙◌}
+use mathlib.Core.Path.{◌≡◌}
 use Prim.Native.Nat.{◌+◌, ◌-◌}
 use lib.ListN.{length, drop}
-use borrow.Author.Rules.{rules}
-use borrow.Author.Tests.{not-true, not-false}
 use Rattle.lexis.specs.Bytes.{span_len}
 use Rattle.lexis.specs.Runs.{passes}
-use Rattle.lexis.proofs.Runs.{span_more, span-stop, span-end}
 use Rattle.lexis.proofs.span.run_end.Given as goal
 
 abbrev pub invariant-loop-i : goal.invariant-loop-i

@@ -1,6 +1,5 @@
 -- The word is compared with those of its first byte (`symbol-by`); where there are none it has no terminal of its own (`symbol-none`).
 use mathlib.Core.Path.{sym, ◌∙◌}
-use borrow.Author.Rules.{rules}
 use Rattle.lexis.specs.Symbol.{terminals, symbol_in}
 use Rattle.lexis.proofs.Terminals.{retain, leading, symbol-by, symbol-none}
 use Rattle.lexis.proofs.symbol.keyword.Goals as goal

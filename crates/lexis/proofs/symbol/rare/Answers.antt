@@ -1,6 +1,5 @@
 -- A keyword has the terminal of its spelling, and so has an operator.
 use mathlib.Core.Path.{◌∙◌}
-use borrow.Author.Rules.{rules}
 use Rattle.lexis.specs.Symbol.{symbol_of}
 use Rattle.lexis.proofs.Terminals.{operator-is}
 use Rattle.lexis.proofs.symbol.rare.Goals as goal

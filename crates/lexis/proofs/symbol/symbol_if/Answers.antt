@@ -1,6 +1,5 @@
 -- The two cases of the comparison.
 use mathlib.Core.Path.{sym, ◌∙◌}
-use borrow.Author.Rules.{rules}
 use Rattle.lexis.proofs.symbol.symbol_if.Goals as goal
 
 pub returns-then-same : goal.returns-then-same

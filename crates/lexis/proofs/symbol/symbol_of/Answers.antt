@@ -1,7 +1,6 @@
 -- One law of `Terminals` for each answer.
 use mathlib.Core.Path.{ap, ◌∙◌}
 use Prim.Native.Nat.{ℕ, ◌+◌}
-use borrow.Author.Rules.{rules}
 use Rattle.lexis.proofs.Terminals.{mark-is, sum_is}
 use Rattle.lexis.proofs.symbol.symbol_of.Goals as goal
 

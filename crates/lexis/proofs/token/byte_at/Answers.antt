@@ -1,6 +1,5 @@
 -- Past the end stands 0.
 use mathlib.Core.Path.{sym}
-use borrow.Author.Rules.{rules}
 use lib.ListN.{get_or-eq_default}
 use Rattle.lexis.proofs.token.byte_at.Goals as goal
 

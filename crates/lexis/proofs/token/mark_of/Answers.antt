@@ -1,7 +1,5 @@
 -- One law of `Marks` for each answer.
 use mathlib.Core.Path.{sym, ◌∙◌}
-use mathlib.Core.Logic.{⊎_elim}
-use borrow.Author.Rules.{rules}
 use borrow.Author.Tests.{eq-eqb, ne_eqb}
 use mathlib.Core.Bool.{and-false}
 use Rattle.lexis.proofs.Marks.{mark-same, mark-equal, mark-alone, mark-pair, mark-arrow, mark-single, mark-double, mark-lone, mark-none}
@@ -29,8 +27,9 @@ returns-else-a-eq45 c = mark-single _ _ _ c.requires c.if-k-eq-OPERATOR.true (rw
 pub returns-else-b-eq62 : goal.returns-else-b-eq62
 returns-else-b-eq62 c = mark-single _ _ _ c.requires c.if-k-eq-OPERATOR.true
     (elim c.if-b-eq61-2.branch [
-      then-b-eq61-2+else-takes_equal w ↦ rw (eq-eqb _ 61 w.if-b-eq61-2.true, ← w.takes_equal.ensures, w.if-takes_equal.false)
-    | else-b-eq61-2 w ↦ rw (ne_eqb _ 61 w.if-b-eq61-2.false) ])
+      | then-b-eq61-2+else-takes_equal w ↦ rw (eq-eqb _ 61 w.if-b-eq61-2.true, ← w.takes_equal.ensures, w.if-takes_equal.false)
+      | else-b-eq61-2 w ↦ rw (ne_eqb _ 61 w.if-b-eq61-2.false)
+    ])
     (rw (ne_eqb _ 62 c.if-b-eq62.false, and-false))
 
 pub returns-then-b-a : goal.returns-then-b-a

@@ -2,8 +2,6 @@
 use mathlib.Core.Path.{sym, ◌∙◌}
 use native.Mathlib.Numerals.{add-one}
 use native.Mathlib.Omega.{arith}
-use borrow.Author.Rules.{rules}
-use borrow.Author.Tests.{not-true, not-false}
 use Rattle.lexis.proofs.Positions.{run_in, string-open, string-long, string-good}
 use Rattle.lexis.proofs.token.string_at.Goals as goal
 

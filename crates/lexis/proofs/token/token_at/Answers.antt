@@ -1,6 +1,5 @@
 -- One law of `Lexemes` for each class of the first byte.
 use mathlib.Core.Path.{ap, ◌∙◌}
-use borrow.Author.Rules.{rules}
 use Rattle.lexis.specs.Lexeme.{mark_lexeme}
 use Rattle.lexis.proofs.Lexemes.{number-here, word-here, string-here, mark-here}
 use Rattle.lexis.proofs.token.token_at.Goals as goal

@@ -2,8 +2,6 @@
 use mathlib.Core.Path.{sym, ◌∙◌}
 use native.Mathlib.Nat.{le_of_lt}
 use native.Mathlib.Omega.{arith}
-use borrow.Author.Rules.{rules}
-use borrow.Author.Tests.{not-true, not-false}
 use Rattle.lexis.proofs.Positions.{run_in, word-long, word_good}
 use Rattle.lexis.proofs.token.word_at.Goals as goal
 
@@ -12,10 +10,10 @@ returns-then-not-name_fits c = word-long _ _ _ c.long_run_end-end.ensures (sym c
 
 pub slice_bounds-kind_of_word-end : goal.slice_bounds-kind_of_word-end
 slice_bounds-kind_of_word-end c = omega (
-      arith,
-      c.long_run_end-end.ensures,
-      run_in _ _ _ _ c.long_run_end-end.ensures (le_of_lt c.requires.at_in_bounds),
-    )
+  arith,
+  c.long_run_end-end.ensures,
+  run_in _ _ _ _ c.long_run_end-end.ensures (le_of_lt c.requires.at_in_bounds),
+)
 
 pub returns : goal.returns
 returns c = word_good _ _ _ c.long_run_end-end.ensures _

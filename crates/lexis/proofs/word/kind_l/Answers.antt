@@ -1,6 +1,5 @@
 -- The word is compared with each word that begins with l (`kind-by`).
 use mathlib.Core.Path.{sym, ◌∙◌}
-use borrow.Author.Rules.{rules}
 use Rattle.lexis.specs.Words.{words, kind_in}
 use Rattle.lexis.proofs.Words.{begun, keep, kind-by}
 use Rattle.lexis.proofs.word.kind_l.Goals as goal

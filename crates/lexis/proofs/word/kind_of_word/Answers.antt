@@ -1,6 +1,5 @@
 -- The word is compared with those of its first byte (`kind-by`); where there are none it is a name.
 use mathlib.Core.Path.{sym, ◌∙◌}
-use borrow.Author.Rules.{rules}
 use Rattle.lexis.specs.Words.{words, kind_in}
 use Rattle.lexis.proofs.Words.{begun, keep, kind-by, none-else, kind-empty}
 use Rattle.lexis.proofs.word.kind_of_word.Goals as goal

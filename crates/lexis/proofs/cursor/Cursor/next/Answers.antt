@@ -1,8 +1,7 @@
 -- One law of `Cursors` for each answer: the end, white space, a comment, a syntactic character, a fault, too many, a token.
 use mathlib.Core.Path.{refl, sym, ◌∙◌}
 use native.Mathlib.Omega.{arith}
-use borrow.Author.Rules.{rules}
-use borrow.Author.Tests.{not-true, not-false, ltb-true}
+use borrow.Author.Tests.{ltb-true}
 use Rattle.lexis.specs.Sizes.{max_tokens}
 use Rattle.lexis.proofs.Cursors.{step_end, step-spaces, step-comment, step-fault, step-many, step-next, token-in}
 use Rattle.lexis.proofs.cursor.Cursor.next.Goals as goal

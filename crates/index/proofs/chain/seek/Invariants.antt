@@ -1,0 +1,13 @@
+use Prim.Native.Nat.{ℕ, ◌-◌, ◌≤◌}
+use mathlib.Core.Path.{sym, subst, ◌∙◌}
+use native.Mathlib.Omega.{arith}
+use Rattle.index.specs.Indexed.{Seeks}
+use Rattle.index.proofs.Chains.{seeks-end, seeks-here, seeks-next}
+use borrow.Author.Rules.{rules}
+use Rattle.index.proofs.chain.seek.Given as goal
+
+abbrev pub invariant-loop-at : goal.invariant-loop-at
+invariant-loop-at l = (l.at ≤ l.first) × ((r : ℕ) → Seeks l.text l.table l.index l.w l.at r → Seeks l.text l.table l.index l.w l.first r)
+
+abbrev pub decreases-loop-at : goal.decreases-loop-at
+decreases-loop-at l = l.at

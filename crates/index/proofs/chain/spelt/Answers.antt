@@ -1,0 +1,6 @@
+use mathlib.Core.Path.{◌∙◌}
+use borrow.Author.Rules.{rules}
+use Rattle.index.proofs.chain.spelt.Goals as goal
+
+pub returns : goal.returns
+returns c = c.same.ensures ∙ simp c.bytes_at.ensures

@@ -1,0 +1,7 @@
+use mathlib.Core.Path.{refl}
+use Rattle.index.proofs.Hashes.{short-is}
+use borrow.Author.Rules.{rules}
+use Rattle.index.proofs.hash.short_hash.Goals as goal
+
+pub returns : goal.returns
+returns c = let w = c.args.w.now in short-is w _ _ _ _ _ c.wide.ensures.value c.wide-2.ensures.value c.wide-3.ensures.value refl c.mix.ensures
