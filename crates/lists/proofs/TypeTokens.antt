@@ -11,7 +11,7 @@ use borrow.Author.Tests.{eq-eqb, ne_eqb}
 use Rattle.lexis.specs.Lexer.{Token}
 use Rattle.lexis.specs.Symbol.{sym_of, left_round, right_round, left_square, right_square, comma, tensor_word, extent_word, scalar_word, logical_word, string_word}
 use Rattle.syntax.specs.Tree.{Ty, Tys}
-use Rattle.syntax.specs.Tree.Ty.{tensor, array_of, tuple_of}
+use Rattle.syntax.specs.Tree.Ty.{array_of, tuple_of}
 use Rattle.syntax.specs.Tree.Tys.{a-type}
 use Rattle.syntax.specs.Grammar.{IsTypeName, Dims, IsType, IsTypes}
 use Rattle.syntax.specs.Grammar.IsTypeName.{is-tensor, is-extent, is-scalar, is-logical, is-string}

@@ -13,7 +13,7 @@ use Rattle.syntax.specs.declared.Parsed.TheVariants.{Done, Fault}
 use Rattle.lexis.specs.Symbol.{sym_of, is_literal, right_round, left_square, right_square, comma, minus, a_name, a_number, a_literal}
 use Rattle.syntax.specs.Tree.{unsigned, negated, Value}
 use Rattle.syntax.specs.Tree.Value.{name, literal, array, tuple}
-use Rattle.syntax.specs.Tree.Values.{none, more}
+use Rattle.syntax.specs.Tree.Values.{more}
 use Rattle.syntax.specs.Grammar.{Leaves, names, literals, both, takes_names, takes_literals}
 use Rattle.syntax.specs.Parser.{Parse, Reader, expect, rest, row, values, commas, negative, value_step, array_items, tuple_items, bracketed, value}
 use Rattle.syntax.specs.Parser.Parse.{ok, bad}

@@ -10,7 +10,7 @@ number-first-requires c = omega (arith, chain-low c.bytes_at-w.result.now, c.cha
 
 pub seek-found-requires : goal.seek-found-requires
 seek-found-requires c = let w = c.requires.walkable in let l = w.low c.chain_of-c.result (omega (arith, chain-low c.bytes_at-w.result.now, c.chain_of-c.ensures)) in
-  record { holds = c.requires.holds; falling = w.falling; first_le_n = omega (arith, l, c.requires.t_lt_n.0, c.number-first.ensures) }
+    record { holds = c.requires.holds; falling = w.falling; first_le_n = omega (arith, l, c.requires.t_lt_n.0, c.number-first.ensures) }
 
 pub returns-then-found-gt0 : goal.returns-then-found-gt0
 returns-then-found-gt0 c = let p = entered-known c.args.text.now c.args.table.now c.args.index.now

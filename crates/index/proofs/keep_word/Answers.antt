@@ -1,6 +1,5 @@
 use mathlib.Core.Path.{sym, ◌∙◌}
 use Rattle.index.proofs.Steps.{kept-had, kept-got}
-use borrow.Author.Rules.{rules}
 use Rattle.index.proofs.keep_word.Goals as goal
 
 pub returns-then-had-ne0 : goal.returns-then-had-ne0

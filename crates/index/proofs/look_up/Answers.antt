@@ -1,6 +1,5 @@
 use native.Mathlib.Omega.{arith}
 use Rattle.index.proofs.Steps.{looked-none, looked-there}
-use borrow.Author.Rules.{rules}
 use Rattle.index.proofs.look_up.Goals as goal
 
 pub returns-then-found-eq0 : goal.returns-then-found-eq0

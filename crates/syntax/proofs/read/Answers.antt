@@ -1,14 +1,17 @@
 -- `read` meets its contract: what the lexer leaves in the work area holds the tokens, and a fault's place lies in the text. Assumes nothing.
 use native.Mathlib.Omega.{arith}
 use lib.ListN.{length}
-use borrow.Author.Rules.{rules}
 use Rattle.syntax.proofs.Reading.{got, room_of, read-refused, read-good, read-bad, fault-within}
 use Rattle.syntax.proofs.read.Goals as goal
 
 pub returns-in_default : goal.returns-in_default
-returns-in_default c = record { value = read-refused c.args.which
+returns-in_default c = record {
+  value = read-refused c.args.which
       c.args.text.now _ c.lex_into-found.ensures.value
-      c.in_default.is; recorded = c.lex_into-found.ensures.recorded; room = c.lex_into-found.ensures.room }
+      c.in_default.is;
+  recorded = c.lex_into-found.ensures.recorded;
+  room = c.lex_into-found.ensures.room;
+}
 
 pub syntax_of-answer-requires : goal.syntax_of-answer-requires
 syntax_of-answer-requires c = (got c.args.text.now
@@ -26,12 +29,16 @@ returns-in_default-answer c = let g = got c.args.text.now
     c.lex_into-found.ensures.room
     c.requires.work_words_in_bounds
     c.in-Tokens.is in
-  record { value = read-good c.args.which
+    record {
+      value = read-good c.args.which
           c.args.text.now
           c.lex_into-found.new.work _ g c.syntax_of-answer.ensures
-          c.in_default-answer.is; recorded = c.lex_into-found.ensures.recorded; room = room_of (length c.args.work.now)
-            c.lex_into-found.ensures.room
-            c.in-Tokens.is }
+          c.in_default-answer.is;
+      recorded = c.lex_into-found.ensures.recorded;
+      room = room_of (length c.args.work.now)
+          c.lex_into-found.ensures.room
+          c.in-Tokens.is;
+    }
 
 pub overflow_cast-result : goal.overflow_cast-result
 overflow_cast-result c = let g = got c.args.text.now
@@ -59,7 +66,11 @@ returns c = let g = got c.args.text.now
     c.lex_into-found.ensures.room
     c.requires.work_words_in_bounds
     c.in-Tokens.is in
-  record { value = read-bad c.args.which
+    record {
+      value = read-bad c.args.which
           c.args.text.now
           c.lex_into-found.new.work _ g
-          c.syntax_of-answer.ensures c.in-Fault.is; recorded = c.lex_into-found.ensures.recorded; room = tt }
+          c.syntax_of-answer.ensures c.in-Fault.is;
+      recorded = c.lex_into-found.ensures.recorded;
+      room = tt;
+    }

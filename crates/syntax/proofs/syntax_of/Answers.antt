@@ -1,5 +1,4 @@
 -- `syntax_of` meets its contract: one case of `syntax_of` for each arm. Assumes nothing.
-use borrow.Author.Rules.{rules}
 use Rattle.syntax.proofs.syntax_of.Goals as goal
 
 pub returns-in-List : goal.returns-in-List

@@ -1,9 +1,5 @@
-use Prim.Native.Nat.{ℕ, ◌-◌, ◌≤◌}
-use mathlib.Core.Path.{sym, subst, ◌∙◌}
-use native.Mathlib.Omega.{arith}
+use Prim.Native.Nat.{ℕ, ◌≤◌}
 use Rattle.index.specs.Indexed.{Seeks}
-use Rattle.index.proofs.Chains.{seeks-end, seeks-here, seeks-next}
-use borrow.Author.Rules.{rules}
 use Rattle.index.proofs.chain.seek.Given as goal
 
 abbrev pub invariant-loop-at : goal.invariant-loop-at

@@ -3,7 +3,6 @@ use Prim.Native.Nat.{◌-◌, ◌/◌}
 use lib.ListN.{length}
 use Rattle.index.specs.Hash.{mixes}
 use Rattle.index.proofs.Hashes.{hash-empty, hash-short, hash-ends, hash-long, ends_is}
-use borrow.Author.Rules.{rules}
 use Rattle.index.proofs.hash.hash.Goals as goal
 
 pub returns-then-n-eq0 : goal.returns-then-n-eq0

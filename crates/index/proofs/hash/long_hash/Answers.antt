@@ -4,7 +4,6 @@ use native.Mathlib.Omega.{arith}
 use lib.ListN.{length}
 use Rattle.index.specs.Hash.{mixed, mixes}
 use Rattle.index.proofs.Hashes.{mixes-next, mixes-end}
-use borrow.Author.Rules.{rules}
 use Rattle.index.proofs.hash.long_hash.Goals as goal
 
 pub loop-i-init : goal.loop-i-init

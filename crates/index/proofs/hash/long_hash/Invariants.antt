@@ -1,10 +1,6 @@
-use Prim.Native.Nat.{ℕ, ◌+◌, ◌-◌, ◌/◌}
-use mathlib.Core.Path.{◌≡◌, refl, sym, ap, ◌∙◌}
-use native.Mathlib.Omega.{arith}
-use lib.ListN.{length}
-use Rattle.index.specs.Hash.{mixed, mixes}
-use Rattle.index.proofs.Hashes.{mixes-next, mixes-end}
-use borrow.Author.Rules.{rules}
+use Prim.Native.Nat.{◌+◌, ◌-◌, ◌/◌}
+use mathlib.Core.Path.{◌≡◌}
+use Rattle.index.specs.Hash.{mixes}
 use Rattle.index.proofs.hash.long_hash.Given as goal
 
 abbrev pub invariant-loop-i : goal.invariant-loop-i

@@ -1,6 +1,5 @@
 use mathlib.Core.Path.{refl}
 use Rattle.index.proofs.Hashes.{short-is}
-use borrow.Author.Rules.{rules}
 use Rattle.index.proofs.hash.short_hash.Goals as goal
 
 pub returns : goal.returns

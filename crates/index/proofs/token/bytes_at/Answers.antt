@@ -1,5 +1,4 @@
 use native.Mathlib.Omega.{arith}
-use borrow.Author.Rules.{rules}
 use Rattle.syntax.specs.Table.{token_at}
 use Rattle.index.proofs.token.bytes_at.Goals as goal
 

@@ -1,5 +1,4 @@
 -- `Parsed::then_list` meets its contract: one case of `onwards` for each arm. Assumes nothing.
-use borrow.Author.Rules.{rules}
 use Rattle.syntax.proofs.Parsed.then_list.Goals as goal
 
 pub returns-in-Done : goal.returns-in-Done

@@ -1,12 +1,10 @@
-use mathlib.Core.Path.{◌≡◌, refl, sym, ◌∙◌}
+use mathlib.Core.Path.{refl, sym, ◌∙◌}
 use native.Mathlib.Omega.{arith}
-use Prim.Native.Nat.{◌-◌}
 use lib.ListN.{length}
 use borrow.Author.Rules.{rules}
 use Rattle.lexis.specs.Sizes.{max_brackets}
-use Rattle.syntax.specs.Table.{toks, parsed}
-use Rattle.syntax.specs.Parser.{row, plain, closed, call}
-use Rattle.lexis.specs.Symbol.{right_curly}
+use Rattle.syntax.specs.Table.{toks}
+use Rattle.syntax.specs.Parser.{call}
 use Rattle.syntax.proofs.Graphs.{body-fell, body-last, body-next}
 use Rattle.syntax.proofs.Chain.{passes, reaches}
 use Rattle.syntax.proofs.Symbols.{stands}

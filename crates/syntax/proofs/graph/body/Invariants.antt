@@ -1,18 +1,12 @@
 -- `graph::body` meets its contract. The invariant: from `i` on the body answers what it answers from `at` on. The measure is the number of tokens left.
 -- Assumes nothing.
-use mathlib.Core.Path.{◌≡◌, refl, sym, ◌∙◌}
-use native.Mathlib.Omega.{arith}
+use mathlib.Core.Path.{◌≡◌}
 use Prim.Native.Nat.{◌-◌}
 use lib.ListN.{length}
-use borrow.Author.Rules.{rules}
 use Rattle.lexis.specs.Sizes.{max_brackets}
 use Rattle.syntax.specs.Table.{toks, parsed}
 use Rattle.syntax.specs.Parser.{row, plain, closed, call}
 use Rattle.lexis.specs.Symbol.{right_curly}
-use Rattle.syntax.proofs.Graphs.{body-fell, body-last, body-next}
-use Rattle.syntax.proofs.Chain.{passes, reaches}
-use Rattle.syntax.proofs.Symbols.{stands}
-use Rattle.syntax.proofs.Shrinks.{call-shrinks}
 use Rattle.syntax.proofs.graph.body.Given as goal
 
 abbrev pub invariant-loop-next : goal.invariant-loop-next

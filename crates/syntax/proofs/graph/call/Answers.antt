@@ -1,6 +1,5 @@
 -- `graph::call` meets its contract: its steps are those of `call-is`. Assumes nothing.
 use lib.ListN.{length}
-use borrow.Author.Rules.{rules}
 use Rattle.syntax.specs.Inner.{reader}
 use Rattle.syntax.specs.Table.{toks}
 use Rattle.syntax.specs.Parser.{row, plain, commas}
@@ -18,9 +17,12 @@ returns-in_default c = fell _
     (call-is c.args.text.now c.args.table.now (length c.args.text.now) c.args.n c.args.at) c.in_default.is
 
 pub semicolon-requires : goal.semicolon-requires
-semicolon-requires c = record { holds = c.requires; at_le_n = step-reaches (length c.args.text.now) c.args.n c.then_expect-bracket.result
-          (λ j. row plain (commas right_round) (reader Argument) (toks c.args.text.now c.args.table.now c.args.n j)) c.then_list-arguments.ensures
-          c.in-Done.is }
+semicolon-requires c = record {
+  holds = c.requires;
+  at_le_n = step-reaches (length c.args.text.now) c.args.n c.then_expect-bracket.result
+      (λ j. row plain (commas right_round) (reader Argument) (toks c.args.text.now c.args.table.now c.args.n j)) c.then_list-arguments.ensures
+      c.in-Done.is;
+}
 
 pub returns : goal.returns
 returns c = went _

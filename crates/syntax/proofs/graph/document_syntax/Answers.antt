@@ -1,6 +1,5 @@
 -- `graph::document_syntax` meets its contract: its steps are those of `document-is`. Assumes nothing.
 use lib.ListN.{length}
-use borrow.Author.Rules.{rules}
 use Rattle.syntax.proofs.Graphs.{document-is, at_rest, at-end}
 use Rattle.syntax.proofs.Chain.{fell, went}
 use Rattle.syntax.proofs.graph.document_syntax.Goals as goal

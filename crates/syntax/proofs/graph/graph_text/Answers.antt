@@ -1,6 +1,5 @@
 -- `graph::graph_text` meets its contract: its steps are those of `graph_is`. Assumes nothing.
 use lib.ListN.{length}
-use borrow.Author.Rules.{rules}
 use Rattle.syntax.proofs.Graphs.{graph_is}
 use Rattle.syntax.proofs.Chain.{fell, went, onto}
 use Rattle.syntax.proofs.graph.graph_text.Goals as goal

@@ -1,7 +1,6 @@
 -- `graph::inputs` meets its contract: its steps are those of `inputs-is`. Assumes nothing.
 use mathlib.Core.Path.{sym, ◌∙◌}
 use lib.ListN.{length}
-use borrow.Author.Rules.{rules}
 use Rattle.syntax.proofs.Graphs.{inputs-is}
 use Rattle.syntax.proofs.Chain.{onto}
 use Rattle.syntax.proofs.graph.inputs.Goals as goal

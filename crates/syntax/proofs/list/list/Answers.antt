@@ -1,11 +1,9 @@
-use mathlib.Core.Path.{◌≡◌, refl, sym, ◌∙◌}
+use mathlib.Core.Path.{refl, sym, ◌∙◌}
 use native.Mathlib.Omega.{arith}
-use Prim.Native.Nat.{◌-◌}
 use lib.ListN.{length}
 use borrow.Author.Rules.{rules}
-use Rattle.syntax.specs.Inner.{reader}
-use Rattle.syntax.specs.Table.{toks, parsed}
-use Rattle.syntax.specs.Parser.{plain, commas, row}
+use Rattle.syntax.specs.Table.{toks}
+use Rattle.syntax.specs.Parser.{plain}
 use Rattle.lexis.specs.Symbol.{right_round}
 use Rattle.syntax.proofs.Lists.{item-sound}
 use Rattle.syntax.proofs.Rows.{row-fell, row_last, row_next}

@@ -1,18 +1,12 @@
 -- `list::list` meets its contract. The invariant: from `i` on the row answers what it answers from `at` on. The measure is the number of tokens left.
 -- Assumes nothing.
-use mathlib.Core.Path.{◌≡◌, refl, sym, ◌∙◌}
-use native.Mathlib.Omega.{arith}
+use mathlib.Core.Path.{◌≡◌}
 use Prim.Native.Nat.{◌-◌}
 use lib.ListN.{length}
-use borrow.Author.Rules.{rules}
 use Rattle.syntax.specs.Inner.{reader}
 use Rattle.syntax.specs.Table.{toks, parsed}
 use Rattle.syntax.specs.Parser.{plain, commas, row}
 use Rattle.lexis.specs.Symbol.{right_round}
-use Rattle.syntax.proofs.Lists.{item-sound}
-use Rattle.syntax.proofs.Rows.{row-fell, row_last, row_next}
-use Rattle.syntax.proofs.Symbols.{stands}
-use Rattle.syntax.proofs.Chain.{passes}
 use Rattle.syntax.proofs.list.list.Given as goal
 
 abbrev pub invariant-loop-next : goal.invariant-loop-next

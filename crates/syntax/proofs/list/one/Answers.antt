@@ -1,5 +1,4 @@
 -- `list::one` meets its contract: one case of `reader` for each arm. Assumes nothing.
-use borrow.Author.Rules.{rules}
 use Rattle.syntax.proofs.Lists.{item-told}
 use Rattle.syntax.proofs.list.one.Goals as goal
 

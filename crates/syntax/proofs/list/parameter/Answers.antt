@@ -1,6 +1,5 @@
 -- `list::parameter` meets its contract: a result and a default. Assumes nothing.
 use lib.ListN.{length}
-use borrow.Author.Rules.{rules}
 use Rattle.lexis.specs.Sizes.{max_brackets}
 use Rattle.syntax.specs.Table.{toks}
 use Rattle.syntax.specs.Parser.{typed_name}
@@ -13,8 +12,11 @@ returns-in_default c = fell _ c.result-typed.ensures (param_is c.args.text.now c
     c.in_default.is
 
 pub default-requires : goal.default-requires
-default-requires c = record { holds = c.requires; at_le_n = reaches (length c.args.text.now) c.args.n (typed_name max_brackets (toks c.args.text.now c.args.table.now c.args.n c.args.at))
-          c.result-typed.ensures c.in-Done.is }
+default-requires c = record {
+  holds = c.requires;
+  at_le_n = reaches (length c.args.text.now) c.args.n (typed_name max_brackets (toks c.args.text.now c.args.table.now c.args.n c.args.at))
+      c.result-typed.ensures c.in-Done.is;
+}
 
 pub returns : goal.returns
 returns c = went _ c.result-typed.ensures (param_is c.args.text.now c.args.table.now (length c.args.text.now) c.args.n c.args.at max_brackets)

@@ -1,6 +1,5 @@
 -- `list::result` meets its contract. Assumes nothing.
 use lib.ListN.{length}
-use borrow.Author.Rules.{rules}
 use Rattle.lexis.specs.Sizes.{max_brackets}
 use Rattle.syntax.proofs.Lists.{result-is}
 use Rattle.syntax.proofs.Chain.{fell, went, onto}

@@ -1,7 +1,6 @@
 -- `operations::header` meets its contract: its steps are those of `header_is`. Assumes nothing.
 use mathlib.Core.Path.{◌∙◌, sym}
 use lib.ListN.{length}
-use borrow.Author.Rules.{rules}
 use Rattle.syntax.proofs.Headers.{header_is}
 use Rattle.syntax.proofs.Chain.{onto}
 use Rattle.syntax.proofs.operations.header.Goals as goal

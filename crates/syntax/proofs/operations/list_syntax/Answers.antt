@@ -1,11 +1,8 @@
-use mathlib.Core.Path.{◌≡◌, refl, ◌∙◌, sym}
+use mathlib.Core.Path.{refl, ◌∙◌, sym}
 use native.Mathlib.Omega.{arith}
-use Prim.Native.Nat.{◌-◌}
 use lib.ListN.{length}
-use borrow.Author.Rules.{rules}
 use Rattle.lexis.specs.Sizes.{max_brackets}
-use Rattle.syntax.specs.Table.{toks, parsed}
-use Rattle.syntax.specs.Parser.{header, operations}
+use Rattle.syntax.specs.Table.{toks}
 use Rattle.syntax.proofs.Headers.{operations-is, operations-end}
 use Rattle.syntax.proofs.Chain.{fell, went, passes}
 use Rattle.syntax.proofs.Shrinks.{header-shrinks}
@@ -23,12 +20,12 @@ returns-in_default c = fell _ c.header-one.ensures
 
 pub loop-i-smaller : goal.loop-i-smaller
 loop-i-smaller c = omega (
-      arith,
-      passes c.args.text.now c.args.table.now (length c.args.text.now) c.args.n c.loop-i.i
-          (header-shrinks max_brackets (toks c.args.text.now c.args.table.now c.args.n c.loop-i.i))
-          c.header-one.ensures c.in-Done.is,
-      c.loop-i-test.true,
-    )
+  arith,
+  passes c.args.text.now c.args.table.now (length c.args.text.now) c.args.n c.loop-i.i
+      (header-shrinks max_brackets (toks c.args.text.now c.args.table.now c.args.n c.loop-i.i))
+      c.header-one.ensures c.in-Done.is,
+  c.loop-i-test.true,
+)
 
 pub loop-i-preserved : goal.loop-i-preserved
 loop-i-preserved c = c.loop-i.invariant

@@ -1,16 +1,11 @@
 -- `operations::list_syntax` meets its contract. The invariant: from `i` on the list answers what it answers from the start. The measure is the number of
 -- tokens left. Assumes nothing.
-use mathlib.Core.Path.{◌≡◌, refl, ◌∙◌, sym}
-use native.Mathlib.Omega.{arith}
+use mathlib.Core.Path.{◌≡◌}
 use Prim.Native.Nat.{◌-◌}
 use lib.ListN.{length}
-use borrow.Author.Rules.{rules}
 use Rattle.lexis.specs.Sizes.{max_brackets}
 use Rattle.syntax.specs.Table.{toks, parsed}
-use Rattle.syntax.specs.Parser.{header, operations}
-use Rattle.syntax.proofs.Headers.{operations-is, operations-end}
-use Rattle.syntax.proofs.Chain.{fell, went, passes}
-use Rattle.syntax.proofs.Shrinks.{header-shrinks}
+use Rattle.syntax.specs.Parser.{operations}
 use Rattle.syntax.proofs.operations.list_syntax.Given as goal
 
 abbrev pub invariant-loop-i : goal.invariant-loop-i

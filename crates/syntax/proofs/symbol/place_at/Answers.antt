@@ -1,6 +1,5 @@
 -- `symbol::place_at` meets its contract. Assumes nothing.
 use mathlib.Core.Path.{◌∙◌}
-use borrow.Author.Rules.{rules}
 use Rattle.syntax.proofs.Symbols.{place_none, place-more}
 use Rattle.syntax.proofs.symbol.place_at.Goals as goal
 

@@ -1,5 +1,4 @@
 -- `symbol::symbol_at` meets its contract: the mark at a place is its token's terminal. Assumes nothing.
-use borrow.Author.Rules.{rules}
 use Rattle.syntax.proofs.Symbols.{look_none, look-more}
 use Rattle.syntax.proofs.symbol.symbol_at.Goals as goal
 

@@ -1,11 +1,10 @@
-use mathlib.Core.Path.{◌≡◌, sym, ◌∙◌}
+use mathlib.Core.Path.{sym, ◌∙◌}
 use native.Mathlib.Omega.{arith}
-use Prim.Native.Nat.{ℕ, ◌<◌, ◌≤◌, ◌+◌, ◌-◌, ◌*◌}
 use lib.ListN.{length}
 use borrow.Author.Rules.{rules}
 use Rattle.syntax.specs.Inner.{base_of}
-use Rattle.syntax.specs.Table.{toks, parsed}
-use Rattle.syntax.specs.Parser.{type, types, commas, row}
+use Rattle.syntax.specs.Table.{toks}
+use Rattle.syntax.specs.Parser.{types}
 use Rattle.lexis.specs.Symbol.{right_round}
 use Rattle.syntax.proofs.TypeSpecs.{type-sound, type-is, tuple-types-is, word_stands, at-word, at-not, at-full, at-tuple}
 use Rattle.syntax.proofs.Rows.{row-fell, row_last, row_next, comma-past}
@@ -64,8 +63,11 @@ pub type_at-returns-in_default : goal.type_at-returns-in_default
 type_at-returns-in_default t c = fell _ c.base-first.ensures (type-is c.args.text.now c.args.table.now (length c.args.text.now) c.args.n c.args.at c.args.room) c.in_default.is
 
 pub type_at-pairs-requires : goal.type_at-pairs-requires
-type_at-pairs-requires t c = record { holds = c.requires; at_le_n = reaches (length c.args.text.now) c.args.n (base_of c.args.room (toks c.args.text.now c.args.table.now c.args.n c.args.at)) c.base-first.ensures
-          c.in-Done.is }
+type_at-pairs-requires t c = record {
+  holds = c.requires;
+  at_le_n = reaches (length c.args.text.now) c.args.n (base_of c.args.room (toks c.args.text.now c.args.table.now c.args.n c.args.at)) c.base-first.ensures
+      c.in-Done.is;
+}
 
 pub type_at-returns : goal.type_at-returns
 type_at-returns t c = went _ c.base-first.ensures (type-is c.args.text.now c.args.table.now (length c.args.text.now) c.args.n c.args.at c.args.room)
@@ -100,15 +102,15 @@ type_items-loop-next-smaller t c = let h = stands c.args.text.now c.args.table.n
 
 pub type_items-loop-next-preserved : goal.type_items-loop-next-preserved
 type_items-loop-next-preserved t c = (
-      omega (
-        arith,
-        passes c.args.text.now c.args.table.now (length c.args.text.now) c.args.n c.loop-next.i
-            ((type-sound c.args.room).small (toks c.args.text.now c.args.table.now c.args.n c.loop-next.i))
-            c.type_at-item.ensures c.in-Done.is,
-        c.loop-next.invariant.0,
-      ),
-      c.loop-next.invariant.1
-          ∙ row_next types right_round (type-sound c.args.room) (length c.args.text.now) c.args.n c.args.text.now c.args.table.now
-          c.loop-next.i c.type_at-item.ensures
-          c.in-Done.is c.symbol_at.ensures c.if-symbol_at-ne-COMMA.false,
-    )
+  omega (
+    arith,
+    passes c.args.text.now c.args.table.now (length c.args.text.now) c.args.n c.loop-next.i
+        ((type-sound c.args.room).small (toks c.args.text.now c.args.table.now c.args.n c.loop-next.i))
+        c.type_at-item.ensures c.in-Done.is,
+    c.loop-next.invariant.0,
+  ),
+  c.loop-next.invariant.1
+      ∙ row_next types right_round (type-sound c.args.room) (length c.args.text.now) c.args.n c.args.text.now c.args.table.now
+      c.loop-next.i c.type_at-item.ensures
+      c.in-Done.is c.symbol_at.ensures c.if-symbol_at-ne-COMMA.false,
+)

@@ -1,18 +1,11 @@
 -- The readers of types meet their contracts. The measure is three times the number of tokens left, and a little more for those that call another at
 -- the same place. The invariant of the loop of `type_items`: from `i` on the row answers what it answers from `at` on. Assumes nothing.
-use mathlib.Core.Path.{◌≡◌, sym, ◌∙◌}
-use native.Mathlib.Omega.{arith}
-use Prim.Native.Nat.{ℕ, ◌<◌, ◌≤◌, ◌+◌, ◌-◌, ◌*◌}
+use mathlib.Core.Path.{◌≡◌}
+use Prim.Native.Nat.{◌≤◌, ◌+◌, ◌-◌, ◌*◌}
 use lib.ListN.{length}
-use borrow.Author.Rules.{rules}
-use Rattle.syntax.specs.Inner.{base_of}
 use Rattle.syntax.specs.Table.{toks, parsed}
 use Rattle.syntax.specs.Parser.{type, types, commas, row}
 use Rattle.lexis.specs.Symbol.{right_round}
-use Rattle.syntax.proofs.TypeSpecs.{type-sound, type-is, tuple-types-is, word_stands, at-word, at-not, at-full, at-tuple}
-use Rattle.syntax.proofs.Rows.{row-fell, row_last, row_next, comma-past}
-use Rattle.syntax.proofs.Symbols.{stands}
-use Rattle.syntax.proofs.Chain.{fell, went, onto, passes, reaches}
 use Rattle.syntax.proofs.types.+base_tuple_type_type_at_type_items.Given as goal
 
 abbrev pub decreases-base : goal.decreases-base

@@ -1,12 +1,7 @@
-use mathlib.Core.Path.{◌≡◌, refl, sym, ◌∙◌}
+use mathlib.Core.Path.{refl, sym, ◌∙◌}
 use native.Mathlib.Omega.{arith}
-use Prim.Native.Nat.{◌≤◌, ◌-◌}
 use lib.ListN.{length}
-use lib.Dec.{ltb}
 use borrow.Author.Rules.{rules}
-use Rattle.syntax.specs.Table.{toks, parsed}
-use Rattle.syntax.specs.Parser.{dims}
-use Rattle.syntax.specs.Tree.Ty.{tensor}
 use Rattle.syntax.proofs.TypeSpecs.{pairs-stop, pairs-full, pairs-half, pairs-more}
 use Rattle.syntax.proofs.Symbols.{stands}
 use Rattle.syntax.proofs.types.pairs.Goals as goal
@@ -45,9 +40,9 @@ loop-n-smaller c = let h = stands c.args.text.now c.args.table.now c.args.n _ c.
 
 pub loop-n-preserved : goal.loop-n-preserved
 loop-n-preserved c = let h = stands c.args.text.now c.args.table.now c.args.n _ c.symbol_at-in-loop-n.ensures (omega (arith, c.if-symbol_at-ne-RIGHT_SQUARE.false)) in (
-      omega (arith, h),
-      c.loop-n.invariant.1
-          ∙ pairs-more c.args.text.now c.args.table.now (length c.args.text.now) c.args.n c.loop-n.i c.args.room
-          c.symbol_at.ensures c.if-symbol_at-ne-LEFT_SQUARE.false c.if-room-eq0.false
-          c.symbol_at-in-loop-n.ensures c.if-symbol_at-ne-RIGHT_SQUARE.false,
-    )
+  omega (arith, h),
+  c.loop-n.invariant.1
+      ∙ pairs-more c.args.text.now c.args.table.now (length c.args.text.now) c.args.n c.loop-n.i c.args.room
+      c.symbol_at.ensures c.if-symbol_at-ne-LEFT_SQUARE.false c.if-room-eq0.false
+      c.symbol_at-in-loop-n.ensures c.if-symbol_at-ne-RIGHT_SQUARE.false,
+)

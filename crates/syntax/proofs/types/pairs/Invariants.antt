@@ -1,16 +1,12 @@
 -- `types::pairs` meets its contract. The invariant: from `i` on the pairs answer what they answer from `at` on. The measure is the number of tokens left.
 -- Assumes nothing.
-use mathlib.Core.Path.{◌≡◌, refl, sym, ◌∙◌}
-use native.Mathlib.Omega.{arith}
+use mathlib.Core.Path.{◌≡◌}
 use Prim.Native.Nat.{◌≤◌, ◌-◌}
 use lib.ListN.{length}
 use lib.Dec.{ltb}
-use borrow.Author.Rules.{rules}
 use Rattle.syntax.specs.Table.{toks, parsed}
 use Rattle.syntax.specs.Parser.{dims}
 use Rattle.syntax.specs.Tree.Ty.{tensor}
-use Rattle.syntax.proofs.TypeSpecs.{pairs-stop, pairs-full, pairs-half, pairs-more}
-use Rattle.syntax.proofs.Symbols.{stands}
 use Rattle.syntax.proofs.types.pairs.Given as goal
 
 abbrev pub invariant-loop-n : goal.invariant-loop-n

@@ -1,9 +1,7 @@
 use mathlib.Core.Path.{◌≡◌, refl, sym, ap, ◌∙◌}
-use mathlib.Core.Logic.{⊎_elim}
 use native.Mathlib.Omega.{arith}
-use Prim.Native.Nat.{ℕ, ◌<◌, ◌≤◌, ◌+◌, ◌-◌, ◌*◌}
+use Prim.Native.Nat.{ℕ, ◌<◌, ◌≤◌, ◌+◌}
 use lib.ListN.{length}
-use borrow.Author.Tests.{not-true, not-false}
 use borrow.Author.Rules.{rules}
 use Rattle.syntax.specs.declared.Parsed.TheVariants.{Done}
 use mathlib.Core.List.{List}
@@ -11,7 +9,7 @@ use Rattle.syntax.specs.Inner.{leaves_of, lookahead, is_leaf, reached}
 use Rattle.syntax.specs.Grammar.{Leaves}
 use mathlib.Core.Bool.{true}
 use Rattle.syntax.specs.Table.{toks, parsed}
-use Rattle.syntax.specs.Parser.{value as value_of, values, commas, row}
+use Rattle.syntax.specs.Parser.{value as value_of, values}
 use Rattle.syntax.proofs.Rows.{comma-past, row-fell, row_last, row_next}
 use Rattle.syntax.proofs.Reached.{reached-place, reached-fault, reached-next}
 use Rattle.syntax.proofs.Values.{value-sound, tuple_is, at-close, at-items, leaf-stands, open-stands, at_leaf, at_other, at-full, at-array, at-tuple}
@@ -73,24 +71,26 @@ items_to-returns-then-n-next t c = let l = c.loop-next in
 pub items_to-expect_to-requires : goal.items_to-expect_to-requires
 items_to-expect_to-requires t c = let item : Item c.args.text.now c.args.table.now c.args.n c.loop-next.i c.args.room c.if-not-is_leaf.next (leaves_of c.args.leaves) =
     elim c.if-not-is_leaf.branch [
-      items_to-then-not-is_leaf+else-n-next w ↦
-        by_value c.args.text.now c.args.table.now c.args.n c.loop-next.i c.args.room (leaves_of c.args.leaves) w.if-n-next.false
-        w.value_to-next.ensures w.next-is
-    | items_to-else-not-is_leaf w ↦
-        by_leaf c.args.text.now c.args.table.now c.args.n c.loop-next.i c.args.room (leaves_of c.args.leaves) c.symbol_at-c.ensures
-        (sym c.is_leaf.ensures ∙ w.if-not-is_leaf.false) w.next-is ] in
+      | items_to-then-not-is_leaf+else-n-next w ↦
+          by_value c.args.text.now c.args.table.now c.args.n c.loop-next.i c.args.room (leaves_of c.args.leaves) w.if-n-next.false
+          w.value_to-next.ensures w.next-is
+      | items_to-else-not-is_leaf w ↦
+          by_leaf c.args.text.now c.args.table.now c.args.n c.loop-next.i c.args.room (leaves_of c.args.leaves) c.symbol_at-c.ensures
+          (sym c.is_leaf.ensures ∙ w.if-not-is_leaf.false) w.next-is
+    ] in
     record { holds = c.requires.holds; at_le_n = (item.1, c.symbol_at-s.ensures, c.requires.at_le_n.1) }
 
 pub items_to-returns-then-s-ne-COMMA : goal.items_to-returns-then-s-ne-COMMA
 items_to-returns-then-s-ne-COMMA t c = let l = c.loop-next in
     let item : Item c.args.text.now c.args.table.now c.args.n c.loop-next.i c.args.room c.if-not-is_leaf.next (leaves_of c.args.leaves) =
     elim c.if-not-is_leaf.branch [
-      items_to-then-not-is_leaf+else-n-next w ↦
-        by_value c.args.text.now c.args.table.now c.args.n c.loop-next.i c.args.room (leaves_of c.args.leaves) w.if-n-next.false
-        w.value_to-next.ensures w.next-is
-    | items_to-else-not-is_leaf w ↦
-        by_leaf c.args.text.now c.args.table.now c.args.n c.loop-next.i c.args.room (leaves_of c.args.leaves) c.symbol_at-c.ensures
-        (sym c.is_leaf.ensures ∙ w.if-not-is_leaf.false) w.next-is ] in
+      | items_to-then-not-is_leaf+else-n-next w ↦
+          by_value c.args.text.now c.args.table.now c.args.n c.loop-next.i c.args.room (leaves_of c.args.leaves) w.if-n-next.false
+          w.value_to-next.ensures w.next-is
+      | items_to-else-not-is_leaf w ↦
+          by_leaf c.args.text.now c.args.table.now c.args.n c.loop-next.i c.args.room (leaves_of c.args.leaves) c.symbol_at-c.ensures
+          (sym c.is_leaf.ensures ∙ w.if-not-is_leaf.false) w.next-is
+    ] in
     row_last values c.args.close (value-sound (leaves_of c.args.leaves) c.args.room) (length c.args.text.now) c.args.n c.args.text.now c.args.table.now l.i
     item.2 refl c.symbol_at-s.ensures c.if-s-ne-COMMA.true c.expect_to.ensures
     ∙ sym l.invariant.2
@@ -105,24 +105,26 @@ items_to-loop-next-smaller t c = let j = c.if-not-is_leaf.next in
     let h = stands c.args.text.now c.args.table.now c.args.n j c.symbol_at-s.ensures (omega (arith, c.if-s-ne-COMMA.false)) in
     let item : Item c.args.text.now c.args.table.now c.args.n c.loop-next.i c.args.room c.if-not-is_leaf.next (leaves_of c.args.leaves) =
     elim c.if-not-is_leaf.branch [
-      items_to-then-not-is_leaf+else-n-next w ↦
-        by_value c.args.text.now c.args.table.now c.args.n c.loop-next.i c.args.room (leaves_of c.args.leaves) w.if-n-next.false
-        w.value_to-next.ensures w.next-is
-    | items_to-else-not-is_leaf w ↦
-        by_leaf c.args.text.now c.args.table.now c.args.n c.loop-next.i c.args.room (leaves_of c.args.leaves) c.symbol_at-c.ensures
-        (sym c.is_leaf.ensures ∙ w.if-not-is_leaf.false) w.next-is ] in
+      | items_to-then-not-is_leaf+else-n-next w ↦
+          by_value c.args.text.now c.args.table.now c.args.n c.loop-next.i c.args.room (leaves_of c.args.leaves) w.if-n-next.false
+          w.value_to-next.ensures w.next-is
+      | items_to-else-not-is_leaf w ↦
+          by_leaf c.args.text.now c.args.table.now c.args.n c.loop-next.i c.args.room (leaves_of c.args.leaves) c.symbol_at-c.ensures
+          (sym c.is_leaf.ensures ∙ w.if-not-is_leaf.false) w.next-is
+    ] in
     omega (arith, item.0)
 
 pub items_to-loop-next-preserved : goal.items_to-loop-next-preserved
 items_to-loop-next-preserved t c = let l = c.loop-next in
     let x : Item c.args.text.now c.args.table.now c.args.n c.loop-next.i c.args.room c.if-not-is_leaf.next (leaves_of c.args.leaves) =
     elim c.if-not-is_leaf.branch [
-      items_to-then-not-is_leaf+else-n-next w ↦
-        by_value c.args.text.now c.args.table.now c.args.n c.loop-next.i c.args.room (leaves_of c.args.leaves) w.if-n-next.false
-        w.value_to-next.ensures w.next-is
-    | items_to-else-not-is_leaf w ↦
-        by_leaf c.args.text.now c.args.table.now c.args.n c.loop-next.i c.args.room (leaves_of c.args.leaves) c.symbol_at-c.ensures
-        (sym c.is_leaf.ensures ∙ w.if-not-is_leaf.false) w.next-is ] in
+      | items_to-then-not-is_leaf+else-n-next w ↦
+          by_value c.args.text.now c.args.table.now c.args.n c.loop-next.i c.args.room (leaves_of c.args.leaves) w.if-n-next.false
+          w.value_to-next.ensures w.next-is
+      | items_to-else-not-is_leaf w ↦
+          by_leaf c.args.text.now c.args.table.now c.args.n c.loop-next.i c.args.room (leaves_of c.args.leaves) c.symbol_at-c.ensures
+          (sym c.is_leaf.ensures ∙ w.if-not-is_leaf.false) w.next-is
+    ] in
     let z = c.symbol_at-s.ensures in
     let h = stands c.args.text.now c.args.table.now c.args.n c.if-not-is_leaf.next z (omega (arith, c.if-s-ne-COMMA.false)) in
     let good = value-sound (leaves_of c.args.leaves) c.args.room in

@@ -1,21 +1,11 @@
 -- The readers of values meet their contracts. The measure is three times the number of tokens left, and a little more for those that call another at
 -- the same place. The invariant of the loop of `items_to`: from `i` on the row answers what it answers from `at` on. Assumes nothing.
-use mathlib.Core.Path.{◌≡◌, refl, sym, ap, ◌∙◌}
-use mathlib.Core.Logic.{⊎_elim}
-use native.Mathlib.Omega.{arith}
-use Prim.Native.Nat.{ℕ, ◌<◌, ◌≤◌, ◌+◌, ◌-◌, ◌*◌}
+use mathlib.Core.Path.{◌≡◌}
+use Prim.Native.Nat.{◌≤◌, ◌+◌, ◌-◌, ◌*◌}
 use lib.ListN.{length}
-use borrow.Author.Tests.{not-true, not-false}
-use borrow.Author.Rules.{rules}
-use Rattle.syntax.specs.declared.Parsed.TheVariants.{Done}
 use Rattle.syntax.specs.Inner.{leaves_of}
 use Rattle.syntax.specs.Table.{toks, parsed}
 use Rattle.syntax.specs.Parser.{value as value_of, values, commas, row}
-use Rattle.syntax.proofs.Rows.{comma-past, row-fell, row_last, row_next}
-use Rattle.syntax.proofs.Reached.{reached-place, reached-fault, reached-next}
-use Rattle.syntax.proofs.Values.{value-sound, tuple_is, at-close, at-items, leaf-stands, open-stands, at_leaf, at_other, at-full, at-array, at-tuple}
-use Rattle.syntax.proofs.Symbols.{stands}
-use Rattle.syntax.proofs.Chain.{fell, went, onto, passes}
 use Rattle.syntax.proofs.value.+array_items_to_tuple_value_to.Given as goal
 
 abbrev pub decreases-array : goal.decreases-array

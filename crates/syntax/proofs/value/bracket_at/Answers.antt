@@ -1,6 +1,5 @@
 -- `value::bracket_at` meets its contract. Assumes nothing.
 use Rattle.syntax.proofs.Reached.{bracket-at}
-use borrow.Author.Rules.{rules}
 use Rattle.syntax.proofs.value.bracket_at.Goals as goal
 
 pub returns : goal.returns

@@ -1,6 +1,5 @@
 -- `value::is_leaf` meets its contract. Assumes nothing.
 use mathlib.Core.Path.{◌∙◌}
-use borrow.Author.Rules.{rules}
 use Rattle.syntax.proofs.Values.{leaf-name, leaf-number, leaf-literal, leaf-not}
 use Rattle.syntax.proofs.value.is_leaf.Goals as goal
 

@@ -2,7 +2,6 @@
 use mathlib.Core.Path.{◌∙◌}
 use Rattle.syntax.specs.Inner.{leaves_of}
 use Rattle.syntax.proofs.Values.{items-none}
-use borrow.Author.Rules.{rules}
 use Rattle.syntax.proofs.value.items.Goals as goal
 
 pub returns-then-n-at : goal.returns-then-n-at

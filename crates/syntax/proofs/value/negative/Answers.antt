@@ -2,11 +2,9 @@
 use mathlib.Core.Path.{sym, ◌∙◌}
 use native.Mathlib.Omega.{arith}
 use lib.ListN.{length}
-use borrow.Author.Tests.{not-true, not-false}
 use Rattle.syntax.specs.Inner.{leaves_of}
 use Rattle.syntax.proofs.Symbols.{stands}
 use Rattle.syntax.proofs.Values.{at-no-sign, at-lost-sign, at_sign}
-use borrow.Author.Rules.{rules}
 use Rattle.syntax.proofs.value.negative.Goals as goal
 
 pub returns-then-s-ne-MINUS : goal.returns-then-s-ne-MINUS
@@ -19,7 +17,7 @@ returns-then-not-takes_literals c = at-lost-sign c.args.text.now c.args.table.no
 
 pub expect_to-requires : goal.expect_to-requires
 expect_to-requires c = let h = stands c.args.text.now c.args.table.now c.args.n c.args.at c.requires.at_le_n.1 (omega (arith, c.if-s-ne-MINUS.false)) in
-  record { holds = c.requires.holds; at_le_n = (omega (arith, h), c.symbol_at.ensures, omega arith) }
+    record { holds = c.requires.holds; at_le_n = (omega (arith, h), c.symbol_at.ensures, omega arith) }
 
 pub returns : goal.returns
 returns c = at_sign c.args.text.now c.args.table.now (length c.args.text.now) c.args.n c.args.at c.requires.at_le_n.1 (leaves_of c.args.leaves)

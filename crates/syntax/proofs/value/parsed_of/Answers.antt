@@ -2,7 +2,6 @@
 use mathlib.Core.Path.{sym, ◌∙◌}
 use native.Mathlib.Omega.{arith}
 use Rattle.syntax.proofs.Reached.{reached-place, reached-syntax, reached-bracket}
-use borrow.Author.Rules.{rules}
 use Rattle.syntax.proofs.value.parsed_of.Goals as goal
 
 pub returns-then-number-n : goal.returns-then-number-n

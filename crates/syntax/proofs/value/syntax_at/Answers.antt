@@ -1,6 +1,5 @@
 -- `value::syntax_at` meets its contract. Assumes nothing.
 use Rattle.syntax.proofs.Reached.{syntax-at}
-use borrow.Author.Rules.{rules}
 use Rattle.syntax.proofs.value.syntax_at.Goals as goal
 
 pub returns : goal.returns

@@ -1,7 +1,6 @@
 -- `value::then_to` meets its contract: one case of `onwards` for each way out. Assumes nothing.
 use native.Mathlib.Omega.{arith}
 use Rattle.syntax.proofs.Reached.{then-fault, then-place}
-use borrow.Author.Rules.{rules}
 use Rattle.syntax.proofs.value.then_to.Goals as goal
 
 pub returns-then-n-first : goal.returns-then-n-first
