@@ -12,7 +12,7 @@ use Rattle.lexis.specs.Sizes.{max_brackets, max_operations, max_parameters}
 use Rattle.lexis.specs.Lexer.{Token}
 use Rattle.lexis.specs.Symbol.{right_round}
 use Rattle.syntax.specs.Tree.{Param, Arg, Header, Call}
-use Rattle.syntax.specs.Parser.{plain, commas, row, argument, left}
+use Rattle.syntax.specs.Parser.{plain, commas, row, argument}
 use Rattle.syntax.specs.Parser.Parse.{ok}
 use Rattle.syntax.specs.Table.{start_at, token_at, toks}
 use Rattle.syntax.proofs.Row.{Shrinks, left-ok, row-shrinks}

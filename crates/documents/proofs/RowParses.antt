@@ -8,7 +8,7 @@ use native.Mathlib.Omega.{arith}
 use lib.Dec.{eqb}
 use borrow.Author.Tests.{eqb-true}
 use Rattle.lexis.specs.Lexer.{Token}
-use Rattle.lexis.specs.Symbol.{sym_of, colon, comma, a_name}
+use Rattle.lexis.specs.Symbol.{sym_of, comma, a_name}
 use Rattle.syntax.specs.Tree.{Param}
 use Rattle.syntax.specs.Parser.{Parse, Reader, then, mapped, expect, follow, onward, plain, row, type, default}
 use Rattle.syntax.specs.Parser.Parse.{ok, bad}

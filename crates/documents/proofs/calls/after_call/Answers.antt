@@ -1,0 +1,16 @@
+use Rattle.documents.proofs.Scanning.{past-semicolon, no-semicolon}
+use Rattle.syntax.specs.Table.{toks}
+use Prim.Native.Nat.{◌+◌}
+use Rattle.documents.proofs.calls.after_call.Goals as goal
+
+pub returns-then-symbol_at-eq-SEMICOLON : goal.returns-then-symbol_at-eq-SEMICOLON
+returns-then-symbol_at-eq-SEMICOLON c = past-semicolon c.args.close
+    (toks c.args.text.now c.args.table.now
+    c.args.n (c.args.close + 1))
+    c.symbol_at.ensures c.if-symbol_at-eq-SEMICOLON.true
+
+pub returns : goal.returns
+returns c = no-semicolon c.args.close
+    (toks c.args.text.now c.args.table.now
+    c.args.n (c.args.close + 1))
+    c.symbol_at.ensures c.if-symbol_at-eq-SEMICOLON.false
