@@ -9,9 +9,6 @@ pub mod Found
 pub mod Putting
 pub mod Measures
 -- Writers.
-pub mod Again
-pub mod Held
-pub mod WriterCalls
 -- Spellings, values, arguments, names and left sides.
 pub mod Spelled
 pub mod Signs

@@ -1,0 +1,8 @@
+use Rattle.lexis.specs.Kind as Kind
+use Rattle.writing.proofs.Putting.{puts_then}
+use borrow.Author.Rules.{rules}
+use Rattle.writing.proofs.call.put_operation.Goals as goal
+
+pub returns : goal.returns
+returns c = puts_then (c.put_mark-equal.ensures Kind.syntactic)
+    (puts_then (c.put_token-named.ensures Kind.name) (c.put_mark.ensures Kind.syntactic))

@@ -1,0 +1,16 @@
+-- What is left of the word goes on from where its first i bytes ended.
+use mathlib.Core.Path.{◌≡◌, refl, sym, ap, ◌∙◌}
+use Prim.Native.Nat.{ℕ, ◌+◌, ◌-◌, ◌≤◌, ◌<◌}
+use native.Mathlib.Nat.{add-zero}
+use native.Mathlib.Omega.{arith}
+use lib.ListN.{length, drop, length-set}
+use Rattle.writing.specs.Writing.{stored}
+use Rattle.writing.proofs.Putting.{paste-step, stored-end}
+use borrow.Author.Rules.{rules}
+use Rattle.writing.proofs.place.paste.Given as goal
+
+abbrev pub invariant-loop-i : goal.invariant-loop-i
+invariant-loop-i l = (length l.out ≡ length l.initial.out) × (l.i ≤ length l.word) × (stored l.out (l.at + l.i) (drop l.i l.word) ≡ stored l.initial.out l.at l.word)
+
+abbrev pub decreases-loop-i : goal.decreases-loop-i
+decreases-loop-i l = length l.word - l.i

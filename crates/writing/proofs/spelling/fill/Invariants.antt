@@ -1,0 +1,14 @@
+-- The digits behind place i are the last of n, and those of `rest` are the others.
+use mathlib.Core.Path.{◌≡◌, sym, ◌∙◌}
+use Prim.Native.Nat.{◌<◌}
+use native.Mathlib.Omega.{arith}
+use lib.ListN.{length, length-set}
+use Rattle.writing.proofs.Spelled.{Filled, filled_none, filled-room, filled_more, filled-all}
+use borrow.Author.Rules.{rules}
+use Rattle.writing.proofs.spelling.fill.Given as goal
+
+abbrev pub invariant-loop-rest : goal.invariant-loop-rest
+invariant-loop-rest l = (l.i < 20) × (length l.buffer ≡ 20) × Filled l.n l.rest l.i l.buffer
+
+abbrev pub decreases-loop-rest : goal.decreases-loop-rest
+decreases-loop-rest l = l.rest
