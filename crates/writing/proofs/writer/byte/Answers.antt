@@ -1,4 +1,4 @@
-use Rattle.std.proofs.Common.{rules, refl}
+use Rattle.std.proofs.Common.{refl}
 use Rattle.writing.specs.Writing.{passed, stored}
 use Rattle.writing.proofs.writer.byte.Goals as goal
 
