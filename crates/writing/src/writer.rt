@@ -59,7 +59,9 @@ pub fn write_quoted(out: &mut [u8], at: usize, quote: u8, content: &[u8]) -> usi
     ensures value { result ≡ passed at (quoted quote content.now) }
     ensures out_after { out.new ≡ stored out.old at (quoted quote content.now) }
 {
-    end(bytes(byte(new(out, at), quote), content), quote)
+    let opened = put_byte(&mut *out, at, quote);
+    let filled = put_bytes(&mut *out, opened, content);
+    put_byte(out, filled, quote)
 }
 
 // The bytes of a word and one byte of white space, from a position on, and the position after them.
@@ -67,5 +69,6 @@ pub fn write_line(out: &mut [u8], at: usize, word: &[u8], space: u8) -> usize
     ensures value { result ≡ passed at (word.now ++ (space ∷ [])) }
     ensures out_after { out.new ≡ stored out.old at (word.now ++ (space ∷ [])) }
 {
-    end(bytes(new(out, at), word), space)
+    let filled = put_bytes(&mut *out, at, word);
+    put_byte(out, filled, space)
 }
