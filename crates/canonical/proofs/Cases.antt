@@ -175,7 +175,7 @@ pub right : map (λ (c : Case). c.gives) cases ≡ map (λ (c : Case). c.is) cas
 unfolding flatten flat_map same_bytes through_difference pairs comparison class_of span_len gap_from words kind_in frac_len sign_len is_e exp_len parts_of sticks
     value_from written_of minus_of strip reduced_of is_near is_small in_range number_lexeme word_lexeme string_lexeme takes_equal is_pair is_arrow mark_lexeme
     lexeme admit lex_from terminals symbol_in symbol_of sym_of P.expect P.follow P.row_f P.row P.negative P.value_step P.array_items P.tuple_items P.bracketed
-    P.value P.type_name P.dims P.tuple_types P.base_step P.type P.default P.param P.result P.header P.operations P.argument P.left P.call P.document
+    P.value P.type_name P.dims P.tuple_types P.base_step P.type P.default P.param P.typed_name P.header P.operations P.argument P.left P.call P.document
     R.is_extent R.read_at R.read_all R.read_each R.fits R.all_tensor R.all_tensors R.types_of R.result_type B.leading B.named_value B.slots_from operation_of
     Plan.value_for Plan.values_for Plan.plan_call Plan.plan_calls Plan.plan_of F.before F.first N.those N.is_among N.repeats_after N.names_in N.names_of N.used
     N.all_assigned N.all_used L.list_counts L.list_repeats L.bad_defaults L.list_faults B.labels B.taken B.misplaced_from B.misnamed B.misfits B.lacked

@@ -1,9 +1,8 @@
-use mathlib.Core.Path.{◌≡◌, sym, ◌∙◌}
-use Prim.Native.Nat.{◌+◌, ◌-◌}
+use mathlib.Core.Path.{sym, ◌∙◌}
+use Prim.Native.Nat.{◌+◌}
 use native.Mathlib.Omega.{arith}
-use Rattle.orders.specs.Scratch.{wire_at, needs_from, all_marked}
+use Rattle.orders.specs.Scratch.{wire_at}
 use Rattle.orders.proofs.Marks.{marked_start, marked_next, marked-not, marked-end}
-use borrow.Author.Rules.{rules}
 use Rattle.orders.proofs.all_marked.Goals as goal
 
 pub loop-i-init : goal.loop-i-init

@@ -1,10 +1,7 @@
 -- The uses from here on are all marked exactly when those from the first on are.
-use mathlib.Core.Path.{◌≡◌, sym, ◌∙◌}
+use mathlib.Core.Path.{◌≡◌}
 use Prim.Native.Nat.{◌+◌, ◌-◌}
-use native.Mathlib.Omega.{arith}
-use Rattle.orders.specs.Scratch.{wire_at, needs_from, all_marked}
-use Rattle.orders.proofs.Marks.{marked_start, marked_next, marked-not, marked-end}
-use borrow.Author.Rules.{rules}
+use Rattle.orders.specs.Scratch.{needs_from, all_marked}
 use Rattle.orders.proofs.all_marked.Given as goal
 
 abbrev pub invariant-loop-i : goal.invariant-loop-i

@@ -1,11 +1,9 @@
 -- Each test of the code is one of the definition.
 use mathlib.Core.Bool.{true, false}
 use native.Mathlib.Omega.{arith}
-use borrow.Author.Tests.{not-true, not-false}
 use Rattle.orders.specs.Scratch.{count_at}
 use Rattle.orders.proofs.Rows.{row_inside}
 use Rattle.orders.proofs.Codes.{row-range, row-repeated, row-uses}
-use borrow.Author.Rules.{rules}
 use Rattle.orders.proofs.code_at.Goals as goal
 
 pub returns-then-n-k : goal.returns-then-n-k
@@ -23,7 +21,7 @@ overflow_cast-firsts c = omega (arith, c.shared_slice_known-6-1.given c.args.k)
 pub all_marked-requires : goal.all_marked-requires
 all_marked-requires c = let e = c.requires.firsts c.args.k c.if-n-k.false in
     let l = row_inside c.args.records.now c.args.n c.args.k c.if-n-k.false in
-  record { records_words_in_bounds = (c.requires.bounded.room, omega (arith, e, l, c.requires.bounded.uses)); by_index = λ u q. let m = c.requires.bounded.below u (omega (arith, q, e, l)) in omega (arith, m, c.requires.n_in_bounds.1) }
+    record { records_words_in_bounds = (c.requires.bounded.room, omega (arith, e, l, c.requires.bounded.uses)); by_index = λ u q. let m = c.requires.bounded.below u (omega (arith, q, e, l)) in omega (arith, m, c.requires.n_in_bounds.1) }
 
 pub returns-then-not-all_marked : goal.returns-then-not-all_marked
 returns-then-not-all_marked c = row-uses c.args.records.now c.args.n c.args.marks.now c.args.k c.if-n-k.false c.if-marks-k-ne0.false _ (c.requires.firsts c.args.k c.if-n-k.false)

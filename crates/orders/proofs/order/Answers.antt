@@ -1,13 +1,12 @@
 -- The guards, then all stages, then the work areas are cleared.
 use mathlib.Core.Path.{refl, sym, ◌∙◌}
 use lib.ListN.{length}
-use borrow.Author.Tests.{leb-true, not-true, not-false}
+use borrow.Author.Tests.{leb-true}
 use Rattle.lexis.specs.Sizes.{max_text}
 use Rattle.lists.proofs.Guards.{guard-room, guard-list, guard-document}
 use Rattle.documents.proofs.Checks.{areas-parts}
 use Rattle.orders.specs.Answer.{order_stages, judged}
 use Rattle.orders.proofs.Judged.{refused, ended}
-use borrow.Author.Rules.{rules}
 use Rattle.orders.proofs.order.Goals as goal
 
 pub returns-then-not-areas_serve : goal.returns-then-not-areas_serve
@@ -35,7 +34,7 @@ pub order_stages-r-requires : goal.order_stages-r-requires
 order_stages-r-requires c = let l = leb-true (length c.args.list.now) max_text (sym c.text_fits.ensures ∙ c.if-not-text_fits.false) in
     let d = leb-true (length c.args.doc.now) max_text (sym c.text_fits-2.ensures ∙ c.if-not-text_fits-2.false) in
     let w = sym c.areas_serve.ensures ∙ c.if-not-areas_serve.false in
-  record { list_len_bound = (l, d); work_words_in_bounds = areas-parts (length c.args.work1.now) (length c.args.work2.now) w }
+    record { list_len_bound = (l, d); work_words_in_bounds = areas-parts (length c.args.work1.now) (length c.args.work2.now) w }
 
 pub returns : goal.returns
 returns c = let p = ended c.args.list.now c.args.doc.now c.args.work1.now c.args.work2.now c.args.order.now

@@ -1,9 +1,7 @@
 use mathlib.Core.Path.{◌≡◌}
-use Prim.Native.Nat.{◌-◌}
 use native.Mathlib.Omega.{arith}
 use Rattle.orders.specs.Scratch.{count_at}
-use Rattle.orders.proofs.Marks.{Prepared, prepared-start, prepared-next, sum-grows}
-use borrow.Author.Rules.{rules}
+use Rattle.orders.proofs.Marks.{prepared-start, prepared-next, sum-grows}
 use Rattle.orders.proofs.prepare.Goals as goal
 
 pub loop-k-init : goal.loop-k-init
@@ -17,12 +15,12 @@ overflow_cast-uses c = omega (arith, c.shared_slice_known-1.given (count_at c.lo
 
 pub overflow_add-uses-in-loop-k : goal.overflow_add-uses-in-loop-k
 overflow_add-uses-in-loop-k c = omega (
-      arith,
-      c.loop-k.invariant.sum,
-      c.requires.bounded.uses,
-      sum-grows c.args.records.now c.loop-k.k c.args.n c.loop-k.invariant.inside,
-      c.shared_slice_known-1.given (count_at c.loop-k.k),
-    )
+  arith,
+  c.loop-k.invariant.sum,
+  c.requires.bounded.uses,
+  sum-grows c.args.records.now c.loop-k.k c.args.n c.loop-k.invariant.inside,
+  c.shared_slice_known-1.given (count_at c.loop-k.k),
+)
 
 pub loop-k-preserved : goal.loop-k-preserved
 loop-k-preserved c = prepared-next c.args.records.now c.args.n c.args.firsts.now c.args.marks.now c.loop-k.firsts c.loop-k.marks c.loop-k.uses c.loop-k.k
@@ -36,4 +34,4 @@ shape_of-marks c = c.loop-k.invariant.marks-length
 
 pub returns : goal.returns
 returns c = let end : c.loop-k.k ≡ c.args.n = omega (arith, c.loop-k.invariant.inside, c.loop-k-test.false) in
-  record { firsts = rw end at c.loop-k.invariant.numbered; unmarked = rw end at c.loop-k.invariant.blank }
+    record { firsts = rw end at c.loop-k.invariant.numbered; unmarked = rw end at c.loop-k.invariant.blank }

@@ -1,12 +1,10 @@
 use mathlib.Core.Path.{sym, ap, ◌∙◌}
-use Prim.Native.Nat.{ℕ, ◌-◌}
-use lib.ListN.{length}
+use Prim.Native.Nat.{ℕ}
 use native.Mathlib.Omega.{arith}
 use Rattle.lexis.specs.Answer.{answer}
 use Rattle.orders.specs.Scratch.{rows}
 use Rattle.orders.proofs.Codes.{row-none}
-use Rattle.orders.proofs.Walked.{Walked, walked_start, walked_next, walked_stop, walked_end, rows-below, rows-unmarked}
-use borrow.Author.Rules.{rules}
+use Rattle.orders.proofs.Walked.{walked_start, walked_next, walked_stop, walked_end, rows-below, rows-unmarked}
 use Rattle.orders.proofs.walk.Goals as goal
 
 pub loop-place-init : goal.loop-place-init

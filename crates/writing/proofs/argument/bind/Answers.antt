@@ -1,7 +1,6 @@
 -- The slot is set where the parameter is one of the operation and has none.
 use borrow.Author.Tests.{lt-ltb, le-ltb, eq-eqb, ne_eqb}
 use Rattle.writing.specs.Writing.{slot_set}
-use borrow.Author.Rules.{rules}
 use Rattle.writing.proofs.argument.bind.Goals as goal
 
 pub returns-then-slots-p-eq0 : goal.returns-then-slots-p-eq0

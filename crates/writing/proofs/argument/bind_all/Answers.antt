@@ -1,6 +1,6 @@
-use mathlib.Core.Path.{◌≡◌, refl, sym, subst, ◌∙◌}
+use mathlib.Core.Path.{refl, sym, subst, ◌∙◌}
 use mathlib.Core.List.{List}
-use Prim.Native.Nat.{ℕ, ◌+◌, ◌-◌, ◌<◌, ◌≤◌}
+use Prim.Native.Nat.{ℕ, ◌+◌, ◌≤◌}
 use native.Mathlib.Omega.{arith}
 use lib.ListN.{length}
 use Rattle.syntax.proofs.Symbols.{stands}
@@ -10,13 +10,13 @@ use Rattle.writing.proofs.argument.bind_all.Goals as goal
 
 pub loop-o-init : goal.loop-o-init
 loop-o-init c = (
-      refl,
-      c.requires.at_nonzero.1,
-      c.requires.at_nonzero.0,
-      omega arith,
-      omega arith,
-      passes_none c.args.dtext.now c.args.dtable.now c.args.dn c.args.ltext.now c.args.ltable.now c.args.words.now c.args.ln c.args.o c.args.at c.args.slots.now 0,
-    )
+  refl,
+  c.requires.at_nonzero.1,
+  c.requires.at_nonzero.0,
+  omega arith,
+  omega arith,
+  passes_none c.args.dtext.now c.args.dtable.now c.args.dn c.args.ltext.now c.args.ltable.now c.args.words.now c.args.ln c.args.o c.args.at c.args.slots.now 0,
+)
 
 pub aim_of-a-requires : goal.aim_of-a-requires
 aim_of-a-requires c = record { holds = c.requires.holds; holds_2 = c.requires.holds_2; params_recorded = c.requires.params_recorded; names_below = c.requires.names_below; at_le_dn = c.loop-o.invariant.1 }
@@ -37,8 +37,11 @@ pub returns-then-symbol_at-ne-COMMA : goal.returns-then-symbol_at-ne-COMMA
 returns-then-symbol_at-ne-COMMA c = let room : c.args.o.count ≤ length c.loop-o.slots = omega (arith, c.requires.params_recorded.few, c.requires.at_nonzero.3, c.loop-o.invariant.0) in
     let done = passes-ended c.args.dtext.now c.args.dtable.now c.args.dn c.args.ltext.now c.args.ltable.now c.args.words.now c.args.ln c.args.o c.args.at c.args.slots.now
     c.loop-o.slots c.loop-o.w c.loop-o.invariant.5 room c.aim_of-a.ensures.meaning (omega (arith, c.aim_of-a.ensures.range.0, c.loop-o.invariant.2)) c.value_end-end.result c.value_end-end.ensures.meaning c.symbol_at.ensures c.if-symbol_at-ne-COMMA.true in
-  record { range = (omega (arith, c.value_end-end.ensures.range.0, c.aim_of-a.ensures.range.0, c.loop-o.invariant.3), c.value_end-end.ensures.range.1); meaning = subst (λ (ss : List ℕ). BindsAll c.args.dtext.now c.args.dtable.now c.args.dn c.args.at c.args.ltext.now c.args.ltable.now c.args.words.now c.args.ln c.args.o
-          c.args.slots.now ss c.value_end-end.result) (sym c.bind.ensures) done }
+    record {
+      range = (omega (arith, c.value_end-end.ensures.range.0, c.aim_of-a.ensures.range.0, c.loop-o.invariant.3), c.value_end-end.ensures.range.1);
+      meaning = subst (λ (ss : List ℕ). BindsAll c.args.dtext.now c.args.dtable.now c.args.dn c.args.at c.args.ltext.now c.args.ltable.now c.args.words.now c.args.ln c.args.o
+          c.args.slots.now ss c.value_end-end.result) (sym c.bind.ensures) done;
+    }
 
 pub overflow_add-w : goal.overflow_add-w
 overflow_add-w c = omega (arith, c.value_end-end.ensures.range.1, c.requires.at_nonzero.2)

@@ -1,12 +1,8 @@
 -- The slots hold what the arguments passed bind; those left stand from the walk's place on.
-use mathlib.Core.Path.{◌≡◌, refl, sym, subst, ◌∙◌}
-use mathlib.Core.List.{List}
-use Prim.Native.Nat.{ℕ, ◌+◌, ◌-◌, ◌<◌, ◌≤◌}
-use native.Mathlib.Omega.{arith}
+use mathlib.Core.Path.{◌≡◌}
+use Prim.Native.Nat.{◌-◌, ◌<◌, ◌≤◌}
 use lib.ListN.{length}
-use Rattle.syntax.proofs.Symbols.{stands}
-use Rattle.writing.specs.Writing.{BindsAll}
-use Rattle.writing.proofs.ArgumentPlaces.{Passes, passes_none, passes-ended, passes_on}
+use Rattle.writing.proofs.ArgumentPlaces.{Passes}
 use Rattle.writing.proofs.argument.bind_all.Given as goal
 
 abbrev pub invariant-loop-o : goal.invariant-loop-o

@@ -1,7 +1,6 @@
 -- The name, `=`, and the value.
 use native.Mathlib.Omega.{arith}
 use Rattle.writing.proofs.ArgumentPuts.{argument-put}
-use borrow.Author.Rules.{rules}
 use Rattle.writing.proofs.argument.put_argument.Goals as goal
 
 pub name_of-requires : goal.name_of-requires

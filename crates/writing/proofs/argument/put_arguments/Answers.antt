@@ -10,6 +10,9 @@ pub put_slots-place-requires : goal.put_slots-place-requires
 put_slots-place-requires c = record { holds = c.requires.holds; ranged = c.requires.ranged; holds_2 = c.requires.holds_2; ranged_2 = c.requires.ranged_2; params_recorded = c.requires.params_recorded; names_below = c.requires.names_below; max_parameters_in_bounds = search rules }
 
 pub returns : goal.returns
-returns c = record { range = c.bind_all-close.ensures.range; meaning = λ ps xs us vs d h m v.
-          let r = c.bind_all-close.ensures.meaning ps xs us d h (empty-slots 32) in
-          (c.put_slots-place.ensures ps xs vs d r.0 m v, r.1, r.2) }
+returns c = record {
+  range = c.bind_all-close.ensures.range;
+  meaning = λ ps xs us vs d h m v.
+      let r = c.bind_all-close.ensures.meaning ps xs us d h (empty-slots 32) in
+      (c.put_slots-place.ensures ps xs vs d r.0 m v, r.1, r.2);
+}

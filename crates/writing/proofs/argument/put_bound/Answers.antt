@@ -8,7 +8,6 @@ use Rattle.syntax.specs.Parser.{value, type}
 use Rattle.syntax.specs.Table.{toks}
 use Rattle.writing.proofs.ArgumentPlaces.{value_none, value-some, bound-value, default-value}
 use Rattle.writing.proofs.ArgumentPuts.{default-read}
-use borrow.Author.Rules.{rules}
 use Rattle.writing.proofs.argument.put_bound.Goals as goal
 
 pub name_of-t-requires : goal.name_of-t-requires

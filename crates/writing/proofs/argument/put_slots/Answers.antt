@@ -1,9 +1,7 @@
-use mathlib.Core.Path.{◌≡◌, refl, ◌∙◌}
-use Prim.Native.Nat.{◌-◌, ◌<◌}
+use mathlib.Core.Path.{refl, ◌∙◌}
 use native.Mathlib.Omega.{arith}
-use lib.ListN.{length}
 use Rattle.lexis.specs.Kind as Kind
-use Rattle.writing.proofs.ArgumentPuts.{PutsLeft, puts-start, puts-nothing, puts-last, puts-on}
+use Rattle.writing.proofs.ArgumentPuts.{puts-start, puts-nothing, puts-last, puts-on}
 use borrow.Author.Rules.{rules}
 use Rattle.writing.proofs.argument.put_slots.Goals as goal
 
@@ -13,10 +11,10 @@ returns-then-o-eq0 c = puts-nothing c.args.dtext.now c.args.dtable.now c.args.dn
 
 pub loop-i-init : goal.loop-i-init
 loop-i-init c = (
-      refl,
-      omega (arith, c.if-o-eq0.false),
-      puts-start c.args.dtext.now c.args.dtable.now c.args.dn c.args.slots.now c.args.ltext.now c.args.ltable.now c.args.words.now c.args.ln c.args.o c.args.out.now c.args.s,
-    )
+  refl,
+  omega (arith, c.if-o-eq0.false),
+  puts-start c.args.dtext.now c.args.dtable.now c.args.dn c.args.slots.now c.args.ltext.now c.args.ltable.now c.args.words.now c.args.ln c.args.o c.args.out.now c.args.s,
+)
 
 pub offset_bounds-slots-i : goal.offset_bounds-slots-i
 offset_bounds-slots-i c = search rules
@@ -45,9 +43,9 @@ loop-i-smaller c = omega (arith, c.if-o-i.false, c.loop-i.invariant.1)
 
 pub loop-i-preserved : goal.loop-i-preserved
 loop-i-preserved c = (
-      c.out-in-loop-i-1.given ∙ c.out-1.given ∙ c.loop-i.invariant.0,
-      omega (arith, c.if-o-i.false),
-      puts-on c.args.dtext.now c.args.dtable.now c.args.dn c.args.slots.now c.args.ltext.now c.args.ltable.now c.args.words.now c.args.ln c.args.o c.args.out.now c.args.s
-          c.loop-i.out c.loop-i.place c.loop-i.i c.loop-i.invariant.2 c.loop-i.invariant.1 (λ p o v q z h. c.put_argument-place.ensures p o v q (rw c.wide.ensures z) h)
-          (omega (arith, c.if-o-i.false)) (c.put_mark-place.ensures Kind.syntactic),
-    )
+  c.out-in-loop-i-1.given ∙ c.out-1.given ∙ c.loop-i.invariant.0,
+  omega (arith, c.if-o-i.false),
+  puts-on c.args.dtext.now c.args.dtable.now c.args.dn c.args.slots.now c.args.ltext.now c.args.ltable.now c.args.words.now c.args.ln c.args.o c.args.out.now c.args.s
+      c.loop-i.out c.loop-i.place c.loop-i.i c.loop-i.invariant.2 c.loop-i.invariant.1 (λ p o v q z h. c.put_argument-place.ensures p o v q (rw c.wide.ensures z) h)
+      (omega (arith, c.if-o-i.false)) (c.put_mark-place.ensures Kind.syntactic),
+)

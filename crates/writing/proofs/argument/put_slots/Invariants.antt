@@ -1,11 +1,8 @@
 -- With the arguments of the parameters from number i on, all arguments are put.
-use mathlib.Core.Path.{◌≡◌, refl, ◌∙◌}
+use mathlib.Core.Path.{◌≡◌}
 use Prim.Native.Nat.{◌-◌, ◌<◌}
-use native.Mathlib.Omega.{arith}
 use lib.ListN.{length}
-use Rattle.lexis.specs.Kind as Kind
-use Rattle.writing.proofs.ArgumentPuts.{PutsLeft, puts-start, puts-nothing, puts-last, puts-on}
-use borrow.Author.Rules.{rules}
+use Rattle.writing.proofs.ArgumentPuts.{PutsLeft}
 use Rattle.writing.proofs.argument.put_slots.Given as goal
 
 abbrev pub invariant-loop-i : goal.invariant-loop-i

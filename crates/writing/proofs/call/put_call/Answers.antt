@@ -6,7 +6,6 @@ use Rattle.lists.specs.Reading.{result_type}
 use Rattle.documents.proofs.DirectoryEntries.{recorded, names-below, declares}
 use Rattle.documents.proofs.Judgements.{parts, names-operation, arguments-are}
 use Rattle.writing.proofs.CallWrites.{call-with, call-inside, call-after, under, puts-call}
-use borrow.Author.Rules.{rules}
 use Rattle.writing.proofs.call.put_call.Goals as goal
 
 pub overflow_add-equal : goal.overflow_add-equal

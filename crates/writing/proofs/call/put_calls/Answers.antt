@@ -1,23 +1,12 @@
-use mathlib.Core.Path.{◌≡◌, refl, sym, subst, ◌∙◌}
-use mathlib.Core.List.{List, [], flat_map}
-use mathlib.Core.Option.{some}
-use Prim.Native.Nat.{ℕ, ◌-◌}
+use mathlib.Core.Path.{refl, sym, subst, ◌∙◌}
+use Prim.Native.Nat.{ℕ}
 use native.Mathlib.Omega.{arith}
 use native.Mathlib.Nat.{zero-add}
-use borrow.Author.Tests.{not-true}
 use lib.ListN.{length}
-use Rattle.lexis.specs.Sizes.{max_brackets}
-use Rattle.lexis.specs.Lexer.{Token}
-use Rattle.syntax.specs.Tree.{Header, Call}
-use Rattle.syntax.specs.Table.{toks}
-use Rattle.documents.specs.Calls.{Calls}
-use Rattle.documents.specs.DocumentRules.{argument_faults}
 use Rattle.documents.specs.Judged.{Readable}
-use Rattle.writing.specs.Plan.{PlanCall, plan_calls}
 use Rattle.writing.specs.Layout.{calls_pieces}
-use Rattle.writing.specs.Writing.{CallsRecorded, PutsCall}
-use Rattle.writing.proofs.CallWrites.{Ahead, ahead-next, ahead-end, ahead-over}
-use borrow.Author.Rules.{rules}
+use Rattle.writing.specs.Writing.{PutsCall}
+use Rattle.writing.proofs.CallWrites.{ahead-next, ahead-end, ahead-over}
 use Rattle.writing.proofs.call.put_calls.Goals as goal
 
 pub loop-i-init : goal.loop-i-init
@@ -50,7 +39,7 @@ operation_of-requires c = (omega (arith, c.loop-i-test.true, c.requires.calls_le
 
 pub put_call-step-requires : goal.put_call-step-requires
 put_call-step-requires c = let r = subst (Readable c.args.words.now c.args.z.list) (sym c.operation_of.ensures) (c.requires.readable_ops.named c.loop-i.i c.loop-i-test.true) in
-  record { holds = c.requires.holds; ranged = c.requires.ranged; readable = r; holds_2 = c.requires.holds_2; ranged_2 = c.requires.ranged_2; dn_le_max_tokens = c.requires.calls_le_max_calls.2 }
+    record { holds = c.requires.holds; ranged = c.requires.ranged; readable = r; holds_2 = c.requires.holds_2; ranged_2 = c.requires.ranged_2; dn_le_max_tokens = c.requires.calls_le_max_calls.2 }
 
 pub overflow_add-i : goal.overflow_add-i
 overflow_add-i c = omega (arith, c.loop-i-test.true, c.requires.calls_le_max_calls.0)
@@ -60,13 +49,13 @@ loop-i-smaller c = omega (arith, c.loop-i-test.true)
 
 pub loop-i-preserved : goal.loop-i-preserved
 loop-i-preserved c = (
-      c.out-1.given ∙ c.loop-i.invariant.0,
-      λ hs cs us ps r h f e.
-          ahead-next c.args.ltext.now c.args.ltable.now c.args.words.now c.args.records.now c.args.dtext.now c.args.dtable.now c.args.z hs us (calls_pieces hs ps)
-          c.args.out.now c.args.s r.operations r.clean c.loop-i.i c.loop-i.at c.loop-i-test.true
-          (subst (λ (j : ℕ). PutsCall c.args.ltext.now c.args.ltable.now c.args.words.now c.args.z.list j c.args.dtext.now c.args.dtable.now c.args.z.document c.loop-i.at
-          c.loop-i.out c.put_call-step.new.out c.loop-i.place c.put_call-step.result) c.operation_of.ensures c.put_call-step.ensures) (c.loop-i.invariant.1 hs cs us ps r h f e),
-    )
+  c.out-1.given ∙ c.loop-i.invariant.0,
+  λ hs cs us ps r h f e.
+      ahead-next c.args.ltext.now c.args.ltable.now c.args.words.now c.args.records.now c.args.dtext.now c.args.dtable.now c.args.z hs us (calls_pieces hs ps)
+      c.args.out.now c.args.s r.operations r.clean c.loop-i.i c.loop-i.at c.loop-i-test.true
+      (subst (λ (j : ℕ). PutsCall c.args.ltext.now c.args.ltable.now c.args.words.now c.args.z.list j c.args.dtext.now c.args.dtable.now c.args.z.document c.loop-i.at
+      c.loop-i.out c.put_call-step.new.out c.loop-i.place c.put_call-step.result) c.operation_of.ensures c.put_call-step.ensures) (c.loop-i.invariant.1 hs cs us ps r h f e),
+)
 
 pub shape_of-out : goal.shape_of-out
 shape_of-out c = c.loop-i.invariant.0

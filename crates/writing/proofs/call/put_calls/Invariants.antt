@@ -1,11 +1,8 @@
 -- With the calls from place `at` on, all calls are put; beyond the limits no further call matters.
-use mathlib.Core.Path.{◌≡◌, refl, sym, subst, ◌∙◌}
+use mathlib.Core.Path.{◌≡◌}
 use mathlib.Core.List.{List, [], flat_map}
 use mathlib.Core.Option.{some}
-use Prim.Native.Nat.{ℕ, ◌-◌}
-use native.Mathlib.Omega.{arith}
-use native.Mathlib.Nat.{zero-add}
-use borrow.Author.Tests.{not-true}
+use Prim.Native.Nat.{◌-◌}
 use lib.ListN.{length}
 use Rattle.lexis.specs.Sizes.{max_brackets}
 use Rattle.lexis.specs.Lexer.{Token}
@@ -13,12 +10,10 @@ use Rattle.syntax.specs.Tree.{Header, Call}
 use Rattle.syntax.specs.Table.{toks}
 use Rattle.documents.specs.Calls.{Calls}
 use Rattle.documents.specs.DocumentRules.{argument_faults}
-use Rattle.documents.specs.Judged.{Readable}
 use Rattle.writing.specs.Plan.{PlanCall, plan_calls}
 use Rattle.writing.specs.Layout.{calls_pieces}
-use Rattle.writing.specs.Writing.{CallsRecorded, PutsCall}
-use Rattle.writing.proofs.CallWrites.{Ahead, ahead-next, ahead-end, ahead-over}
-use borrow.Author.Rules.{rules}
+use Rattle.writing.specs.Writing.{CallsRecorded}
+use Rattle.writing.proofs.CallWrites.{Ahead}
 use Rattle.writing.proofs.call.put_calls.Given as goal
 
 abbrev pub invariant-loop-i : goal.invariant-loop-i

@@ -1,6 +1,5 @@
 use Rattle.lexis.specs.Kind as Kind
 use Rattle.writing.proofs.Putting.{puts_then}
-use borrow.Author.Rules.{rules}
 use Rattle.writing.proofs.document.put_arrow.Goals as goal
 
 pub returns : goal.returns

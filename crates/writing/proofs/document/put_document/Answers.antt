@@ -2,7 +2,6 @@
 use Rattle.lexis.specs.Sizes.{max_brackets}
 use Rattle.lexis.specs.Kind as Kind
 use Rattle.writing.proofs.CallWrites.{arguments-clean, puts-document}
-use borrow.Author.Rules.{rules}
 use Rattle.writing.proofs.document.put_document.Goals as goal
 
 pub graph_at-graph-requires : goal.graph_at-graph-requires

@@ -1,6 +1,5 @@
 use mathlib.Core.Path.{◌∙◌}
 use Rattle.lexis.specs.Kind as Kind
-use borrow.Author.Rules.{rules}
 use Rattle.writing.proofs.Putting.{puts_then}
 use Rattle.writing.proofs.Titles.{title}
 use Rattle.writing.proofs.document.put_header.Goals as goal

@@ -2,7 +2,6 @@ use native.Mathlib.Omega.{arith}
 use Rattle.lexis.specs.Kind as Kind
 use Rattle.writing.proofs.Putting.{puts_then}
 use Rattle.writing.proofs.Titles.{title}
-use borrow.Author.Rules.{rules}
 use Rattle.writing.proofs.document.put_title.Goals as goal
 
 pub returns-then-n-le3 : goal.returns-then-n-le3

@@ -1,5 +1,4 @@
 use lib.ListN.{length}
-use borrow.Author.Rules.{rules}
 use Rattle.writing.proofs.Patterns.{not_round, round-ends, round-fault}
 use Rattle.writing.proofs.pattern.is_bracketed.Goals as goal
 

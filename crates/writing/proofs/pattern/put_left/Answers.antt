@@ -1,6 +1,5 @@
 use mathlib.Core.Path.{sym, ◌∙◌}
 use native.Mathlib.Omega.{arith}
-use borrow.Author.Rules.{rules}
 use Rattle.writing.proofs.Patterns.{brackets-past, left-inner, left-whole}
 use Rattle.writing.proofs.pattern.put_left.Goals as goal
 

@@ -1,10 +1,5 @@
-use mathlib.Core.Path.{◌≡◌, refl, ◌∙◌}
-use mathlib.Core.List.{List}
-use Prim.Native.Nat.{ℕ, ◌-◌}
-use lib.ListN.{length}
-use Rattle.syntax.specs.Table.{toks}
-use Rattle.writing.specs.declared.place.Place.{Place}
-use Rattle.writing.proofs.NameRows.{PutsNames, names-none, names-last, names-next}
+use mathlib.Core.Path.{refl, ◌∙◌}
+use Rattle.writing.proofs.NameRows.{names-none, names-last, names-next}
 use borrow.Author.Rules.{rules}
 use Rattle.writing.proofs.pattern.put_names.Goals as goal
 
@@ -20,10 +15,10 @@ returns-then-symbol_at-ne-COMMA c = c.loop-i.invariant.1 c.put_token-place.new.o
 
 pub loop-i-preserved : goal.loop-i-preserved
 loop-i-preserved c = (
-      search rules,
-      λ out' s' k. c.loop-i.invariant.1 out' s' (names-next c.args.text.now c.args.table.now c.args.n c.loop-i.i c.put_token-place.ensures
-          c.symbol_at.ensures c.if-symbol_at-ne-COMMA.false c.put_mark-place.ensures k),
-    )
+  search rules,
+  λ out' s' k. c.loop-i.invariant.1 out' s' (names-next c.args.text.now c.args.table.now c.args.n c.loop-i.i c.put_token-place.ensures
+      c.symbol_at.ensures c.if-symbol_at-ne-COMMA.false c.put_mark-place.ensures k),
+)
 
 pub shape_of-out : goal.shape_of-out
 shape_of-out c = c.loop-i.invariant.0

@@ -1,12 +1,11 @@
 -- What is left of the row goes on from where its first names ended.
-use mathlib.Core.Path.{◌≡◌, refl, ◌∙◌}
+use mathlib.Core.Path.{◌≡◌}
 use mathlib.Core.List.{List}
 use Prim.Native.Nat.{ℕ, ◌-◌}
 use lib.ListN.{length}
 use Rattle.syntax.specs.Table.{toks}
 use Rattle.writing.specs.declared.place.Place.{Place}
-use Rattle.writing.proofs.NameRows.{PutsNames, names-none, names-last, names-next}
-use borrow.Author.Rules.{rules}
+use Rattle.writing.proofs.NameRows.{PutsNames}
 use Rattle.writing.proofs.pattern.put_names.Given as goal
 
 abbrev pub invariant-loop-i : goal.invariant-loop-i

@@ -1,6 +1,5 @@
 use mathlib.Core.Path.{refl}
 use Rattle.writing.proofs.Patterns.{mark-put, word-put}
-use borrow.Author.Rules.{rules}
 use Rattle.writing.proofs.pattern.put_part.Goals as goal
 
 pub returns-then-c-eq-COMMA : goal.returns-then-c-eq-COMMA

@@ -1,11 +1,5 @@
-use mathlib.Core.Path.{◌≡◌, refl}
-use mathlib.Core.List.{List}
-use Prim.Native.Nat.{ℕ, ◌-◌}
-use lib.ListN.{length}
+use mathlib.Core.Path.{refl}
 use borrow.Author.Rules.{rules}
-use Rattle.syntax.specs.Table.{toks}
-use Rattle.writing.specs.declared.place.Place.{Place}
-use Rattle.writing.specs.Writing.{Puts, pattern_pieces}
 use Rattle.writing.proofs.Patterns.{parts_none, parts_more}
 use Rattle.writing.proofs.pattern.put_parts.Goals as goal
 

@@ -1,13 +1,11 @@
 -- What is left of the tokens goes on from where the first of them ended.
-use mathlib.Core.Path.{◌≡◌, refl}
+use mathlib.Core.Path.{◌≡◌}
 use mathlib.Core.List.{List}
 use Prim.Native.Nat.{ℕ, ◌-◌}
 use lib.ListN.{length}
-use borrow.Author.Rules.{rules}
 use Rattle.syntax.specs.Table.{toks}
 use Rattle.writing.specs.declared.place.Place.{Place}
 use Rattle.writing.specs.Writing.{Puts, pattern_pieces}
-use Rattle.writing.proofs.Patterns.{parts_none, parts_more}
 use Rattle.writing.proofs.pattern.put_parts.Given as goal
 
 abbrev pub invariant-loop-i : goal.invariant-loop-i

@@ -2,9 +2,7 @@
 use mathlib.Core.Path.{sym, ap, ◌∙◌}
 use mathlib.Core.Bool.{Bool, ◌&&◌}
 use lib.Dec.{leb}
-use borrow.Author.Tests.{not-true, not-false}
 use Rattle.lexis.specs.Sizes.{max_tokens}
-use borrow.Author.Rules.{rules}
 use Rattle.writing.proofs.place.keeps_limits.Goals as goal
 
 pub returns-then-not-text_fits : goal.returns-then-not-text_fits

@@ -1,5 +1,4 @@
 -- A count goes on, up to the end of a word.
-use borrow.Author.Rules.{rules}
 use Rattle.writing.proofs.Putting.{counted-on, counted-out}
 use Rattle.writing.proofs.place.one_more.Goals as goal
 

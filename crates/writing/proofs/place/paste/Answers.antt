@@ -1,11 +1,10 @@
-use mathlib.Core.Path.{◌≡◌, refl, sym, ap, ◌∙◌}
-use Prim.Native.Nat.{ℕ, ◌+◌, ◌-◌, ◌≤◌, ◌<◌}
+use mathlib.Core.Path.{refl, sym, ap, ◌∙◌}
+use Prim.Native.Nat.{ℕ, ◌+◌, ◌<◌}
 use native.Mathlib.Nat.{add-zero}
 use native.Mathlib.Omega.{arith}
-use lib.ListN.{length, drop, length-set}
+use lib.ListN.{length, length-set}
 use Rattle.writing.specs.Writing.{stored}
 use Rattle.writing.proofs.Putting.{paste-step, stored-end}
-use borrow.Author.Rules.{rules}
 use Rattle.writing.proofs.place.paste.Goals as goal
 
 pub loop-i-init : goal.loop-i-init
@@ -13,11 +12,11 @@ loop-i-init c = (refl, omega arith, ap (λ (k : ℕ). stored c.args.out.now k c.
 
 pub loop-i-preserved : goal.loop-i-preserved
 loop-i-preserved c = let inside : c.args.at + c.loop-i.i < length c.loop-i.out = omega (arith, c.requires, c.loop-i.invariant.0, c.loop-i-test.true) in (
-      length-set c.loop-i.out (c.args.at + c.loop-i.i) _ ∙ c.loop-i.invariant.0,
-      omega (arith, c.loop-i-test.true),
-      sym
-          (paste-step c.loop-i.out c.args.at c.args.word.now c.loop-i.i c.loop-i-test.true inside (omega (arith, inside, c.loop-i.invariant.0))) ∙ c.loop-i.invariant.2,
-    )
+  length-set c.loop-i.out (c.args.at + c.loop-i.i) _ ∙ c.loop-i.invariant.0,
+  omega (arith, c.loop-i-test.true),
+  sym
+      (paste-step c.loop-i.out c.args.at c.args.word.now c.loop-i.i c.loop-i-test.true inside (omega (arith, inside, c.loop-i.invariant.0))) ∙ c.loop-i.invariant.2,
+)
 
 pub shape_of-out : goal.shape_of-out
 shape_of-out c = c.loop-i.invariant.0

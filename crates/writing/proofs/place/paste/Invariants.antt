@@ -1,12 +1,8 @@
 -- What is left of the word goes on from where its first i bytes ended.
-use mathlib.Core.Path.{◌≡◌, refl, sym, ap, ◌∙◌}
-use Prim.Native.Nat.{ℕ, ◌+◌, ◌-◌, ◌≤◌, ◌<◌}
-use native.Mathlib.Nat.{add-zero}
-use native.Mathlib.Omega.{arith}
-use lib.ListN.{length, drop, length-set}
+use mathlib.Core.Path.{◌≡◌}
+use Prim.Native.Nat.{◌+◌, ◌-◌, ◌≤◌}
+use lib.ListN.{length, drop}
 use Rattle.writing.specs.Writing.{stored}
-use Rattle.writing.proofs.Putting.{paste-step, stored-end}
-use borrow.Author.Rules.{rules}
 use Rattle.writing.proofs.place.paste.Given as goal
 
 abbrev pub invariant-loop-i : goal.invariant-loop-i

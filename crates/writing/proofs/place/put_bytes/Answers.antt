@@ -3,9 +3,8 @@ use mathlib.Core.Path.{sym, ◌∙◌}
 use Prim.Native.Nat.{◌+◌, ◌≤◌}
 use native.Mathlib.Omega.{arith}
 use lib.ListN.{length}
-use borrow.Author.Tests.{leb-true, not-false}
+use borrow.Author.Tests.{leb-true}
 use Rattle.writing.proofs.Measures.{passed_is}
-use borrow.Author.Rules.{rules}
 use Rattle.writing.proofs.place.put_bytes.Goals as goal
 
 pub paste-requires : goal.paste-requires
@@ -17,4 +16,4 @@ overflow_add-result c = let h : c.args.at + length c.args.word.now ≤ length c.
 
 pub returns : goal.returns
 returns c = let h : c.args.at + length c.args.word.now ≤ length c.args.out.now = leb-true _ _ (sym c.lies_in.ensures ∙ c.if-not-lies_in.false) in
-  record { value = omega (arith, h, passed_is c.args.at c.args.word.now (omega (arith, h))); out_after = c.paste.ensures }
+    record { value = omega (arith, h, passed_is c.args.at c.args.word.now (omega (arith, h))); out_after = c.paste.ensures }

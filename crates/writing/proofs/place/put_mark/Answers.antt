@@ -1,6 +1,5 @@
 -- The byte is stored, and one token more is counted.
 use mathlib.Core.List.{[], ◌∷◌}
-use borrow.Author.Rules.{rules}
 use Rattle.writing.proofs.Putting.{stores-byte, puts_word}
 use Rattle.writing.proofs.place.put_mark.Goals as goal
 

@@ -1,10 +1,8 @@
 -- What is left of the word goes on from where its first i bytes ended.
-use mathlib.Core.Path.{◌≡◌, refl, sym, ap, ◌∙◌}
+use mathlib.Core.Path.{◌≡◌}
 use Prim.Native.Nat.{◌-◌}
 use lib.ListN.{length, drop}
-use borrow.Author.Rules.{rules}
 use Rattle.writing.specs.Writing.{passed, stored}
-use Rattle.writing.proofs.Putting.{passed-step, stored-step, passed-end, stored-end, stored-length}
 use Rattle.writing.proofs.place.put_slowly.Given as goal
 
 abbrev pub invariant-loop-i : goal.invariant-loop-i

@@ -1,4 +1,3 @@
-use borrow.Author.Rules.{rules}
 use Rattle.writing.proofs.Putting.{puts-piece}
 use Rattle.writing.proofs.place.put_spaced.Goals as goal
 

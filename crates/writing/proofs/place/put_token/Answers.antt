@@ -1,6 +1,5 @@
 -- The token's bytes are the part of the text that its record names.
 use native.Mathlib.Omega.{arith}
-use borrow.Author.Rules.{rules}
 use Rattle.syntax.specs.Table.{token_at}
 use Rattle.writing.proofs.place.put_token.Goals as goal
 

@@ -1,5 +1,4 @@
 -- The bytes are stored, and one token more is counted.
-use borrow.Author.Rules.{rules}
 use Rattle.writing.proofs.Putting.{puts_word}
 use Rattle.writing.proofs.place.put_word.Goals as goal
 

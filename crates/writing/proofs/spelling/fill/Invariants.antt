@@ -1,10 +1,8 @@
 -- The digits behind place i are the last of n, and those of `rest` are the others.
-use mathlib.Core.Path.{◌≡◌, sym, ◌∙◌}
+use mathlib.Core.Path.{◌≡◌}
 use Prim.Native.Nat.{◌<◌}
-use native.Mathlib.Omega.{arith}
-use lib.ListN.{length, length-set}
-use Rattle.writing.proofs.Spelled.{Filled, filled_none, filled-room, filled_more, filled-all}
-use borrow.Author.Rules.{rules}
+use lib.ListN.{length}
+use Rattle.writing.proofs.Spelled.{Filled}
 use Rattle.writing.proofs.spelling.fill.Given as goal
 
 abbrev pub invariant-loop-rest : goal.invariant-loop-rest

@@ -4,7 +4,6 @@ use Prim.Native.Nat.{ℕ}
 use lib.Dec.{eqb}
 use lib.ListN.{get_or-eq_default}
 use Rattle.lexis.specs.Ascii.{byte}
-use borrow.Author.Rules.{rules}
 use Rattle.writing.proofs.spelling.is_zero.Goals as goal
 
 pub returns-then-w-i : goal.returns-then-w-i

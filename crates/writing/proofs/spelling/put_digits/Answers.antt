@@ -2,7 +2,6 @@
 use native.Mathlib.Omega.{arith}
 use Rattle.writing.proofs.Putting.{stores-byte}
 use Rattle.writing.proofs.Spelled.{digits-one}
-use borrow.Author.Rules.{rules}
 use Rattle.writing.proofs.spelling.put_digits.Goals as goal
 
 pub returns-then-n-lt10 : goal.returns-then-n-lt10

@@ -1,6 +1,5 @@
 -- A minus and the digits of the opposite, or the digits.
 use mathlib.Core.List.{[], ◌∷◌}
-use borrow.Author.Rules.{rules}
 use Rattle.lexis.specs.Ascii.{byte}
 use Rattle.writing.proofs.Putting.{stores-byte, stores-then}
 use Rattle.writing.proofs.Spelled.{minus-fits, minus-casts, minus-spelt, plus-casts, plus-spelt}

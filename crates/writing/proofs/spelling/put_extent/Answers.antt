@@ -7,7 +7,6 @@ use lib.Seq.{take_all}
 use Rattle.lexis.specs.Number.{value_from}
 use Rattle.writing.proofs.Spelled.{digits-kept, zero-first}
 use Rattle.writing.proofs.Signs.{puts-extent}
-use borrow.Author.Rules.{rules}
 use Rattle.writing.proofs.spelling.put_extent.Goals as goal
 
 pub slice_bounds-put_word-count : goal.slice_bounds-put_word-count

@@ -1,6 +1,5 @@
 -- A number in range reduces to the number that is put.
 use mathlib.Core.Path.{sym, ◌∙◌}
-use borrow.Author.Rules.{rules}
 use Rattle.writing.proofs.Spelled.{held-is, reduced-near, reduced-is, reduced-some}
 use Rattle.writing.proofs.spelling.put_number.Goals as goal
 

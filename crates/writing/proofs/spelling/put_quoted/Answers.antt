@@ -1,6 +1,5 @@
 use Rattle.writing.specs.Spelling.{spell_string}
 use Rattle.writing.proofs.Putting.{puts_word}
-use borrow.Author.Rules.{rules}
 use Rattle.writing.proofs.spelling.put_quoted.Goals as goal
 
 pub returns : goal.returns

@@ -4,7 +4,6 @@ use mir.Facts.{to_z-of_z}
 use Rattle.lexis.specs.Ascii.{byte}
 use Rattle.writing.specs.Spelling.{decimal, spell_exponent, spell_number}
 use Rattle.writing.proofs.Putting.{stores-byte, stores-then, puts_word}
-use borrow.Author.Rules.{rules}
 use Rattle.writing.proofs.spelling.put_reduced.Goals as goal
 
 pub returns : goal.returns

@@ -1,8 +1,6 @@
 -- No sign, a sign of zero, and a sign that is put.
 use Rattle.lexis.specs.Kind as Kind
-use borrow.Author.Tests.{not-true, not-false}
 use Rattle.writing.proofs.Putting.{puts_none}
-use borrow.Author.Rules.{rules}
 use Rattle.writing.proofs.spelling.put_sign.Goals as goal
 
 pub returns-then-not-negative : goal.returns-then-not-negative

@@ -2,7 +2,6 @@
 use mathlib.Core.Path.{refl}
 use mir.Facts.{to_z-of_z}
 use Rattle.writing.proofs.Signs.{puts-number}
-use borrow.Author.Rules.{rules}
 use Rattle.writing.proofs.spelling.put_signed.Goals as goal
 
 pub returns : goal.returns

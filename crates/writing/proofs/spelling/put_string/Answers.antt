@@ -1,6 +1,5 @@
 -- What stands between the quotes.
 use Rattle.writing.proofs.Spelled.{content-short, content-long}
-use borrow.Author.Rules.{rules}
 use Rattle.writing.proofs.spelling.put_string.Goals as goal
 
 pub returns-then-word-lt2 : goal.returns-then-word-lt2

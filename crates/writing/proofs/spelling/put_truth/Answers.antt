@@ -1,5 +1,4 @@
 -- The test of the length is that of the truth value.
-use borrow.Author.Rules.{rules}
 use borrow.Author.Tests.{eq-eqb, ne_eqb}
 use Rattle.writing.proofs.spelling.put_truth.Goals as goal
 

@@ -1,8 +1,4 @@
-use mathlib.Core.Path.{◌≡◌, refl, sym, ◌∙◌}
-use Prim.Native.Nat.{◌-◌}
-use lib.ListN.{length, drop}
-use borrow.Author.Rules.{rules}
-use Rattle.writing.specs.Spelling.{quote_for}
+use mathlib.Core.Path.{refl, sym, ◌∙◌}
 use Rattle.writing.proofs.Spelled.{quote-found, quote-next, quote-none}
 use Rattle.writing.proofs.spelling.quote_for.Goals as goal
 

@@ -1,10 +1,8 @@
 -- No single quote was passed, so the content holds one where the rest of it does.
-use mathlib.Core.Path.{◌≡◌, refl, sym, ◌∙◌}
+use mathlib.Core.Path.{◌≡◌}
 use Prim.Native.Nat.{◌-◌}
 use lib.ListN.{length, drop}
-use borrow.Author.Rules.{rules}
 use Rattle.writing.specs.Spelling.{quote_for}
-use Rattle.writing.proofs.Spelled.{quote-found, quote-next, quote-none}
 use Rattle.writing.proofs.spelling.quote_for.Given as goal
 
 abbrev pub invariant-loop-i : goal.invariant-loop-i

@@ -1,10 +1,6 @@
-use mathlib.Core.Path.{◌≡◌, refl, sym, ◌∙◌}
-use Prim.Native.Nat.{◌-◌, ◌≤◌, ◌<◌}
+use mathlib.Core.Path.{refl, sym, ◌∙◌}
 use native.Mathlib.Omega.{arith}
-use lib.ListN.{length, drop}
-use Rattle.lexis.specs.Number.{value_from}
 use Rattle.writing.proofs.Spelled.{unpadded-next}
-use borrow.Author.Rules.{rules}
 use Rattle.writing.proofs.spelling.zeros.Goals as goal
 
 pub loop-i-init : goal.loop-i-init
@@ -15,17 +11,17 @@ returns-then-w-i-ne48 c = record { within = c.loop-i.invariant.0; inside = c.loo
 
 pub loop-i-preserved : goal.loop-i-preserved
 loop-i-preserved c = (
-      omega (arith, c.loop-i-test.true),
-      (λ h. omega (arith, c.loop-i-test.true)),
-      sym
-          (unpadded-next c.args.w.now c.loop-i.i (omega (arith, c.loop-i-test.true)) c.if-w-i-ne48.false) ∙ c.loop-i.invariant.2,
-    )
+  omega (arith, c.loop-i-test.true),
+  (λ h. omega (arith, c.loop-i-test.true)),
+  sym
+      (unpadded-next c.args.w.now c.loop-i.i (omega (arith, c.loop-i-test.true)) c.if-w-i-ne48.false) ∙ c.loop-i.invariant.2,
+)
 
 pub returns : goal.returns
 returns c = record {
-      within = c.loop-i.invariant.0;
-      inside = c.loop-i.invariant.1;
-      same = c.loop-i.invariant.2;
-      leading = λ h e. absurd
-          (omega (arith, h, c.loop-i-test.false));
-    }
+  within = c.loop-i.invariant.0;
+  inside = c.loop-i.invariant.1;
+  same = c.loop-i.invariant.2;
+  leading = λ h e. absurd
+      (omega (arith, h, c.loop-i-test.false));
+}

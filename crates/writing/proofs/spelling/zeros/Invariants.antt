@@ -1,11 +1,8 @@
 -- The digits from place i on spell the number that all spell.
-use mathlib.Core.Path.{◌≡◌, refl, sym, ◌∙◌}
+use mathlib.Core.Path.{◌≡◌}
 use Prim.Native.Nat.{◌-◌, ◌≤◌, ◌<◌}
-use native.Mathlib.Omega.{arith}
 use lib.ListN.{length, drop}
 use Rattle.lexis.specs.Number.{value_from}
-use Rattle.writing.proofs.Spelled.{unpadded-next}
-use borrow.Author.Rules.{rules}
 use Rattle.writing.proofs.spelling.zeros.Given as goal
 
 abbrev pub invariant-loop-i : goal.invariant-loop-i

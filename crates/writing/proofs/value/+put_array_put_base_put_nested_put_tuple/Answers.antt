@@ -1,33 +1,32 @@
-use mathlib.Core.Path.{◌≡◌, refl, sym, ◌∙◌}
-use mathlib.Core.List.{List}
-use Prim.Native.Nat.{ℕ, ◌+◌, ◌-◌, ◌*◌, ◌≤◌, ◌<◌}
+use mathlib.Core.Path.{refl, sym, ◌∙◌}
+use Prim.Native.Nat.{◌+◌}
 use native.Mathlib.Omega.{arith}
-use lib.ListN.{length}
 use Rattle.lexis.specs.Ascii.{ascii}
 use Rattle.lexis.specs.Symbol.{right_round, right_square}
 use Rattle.syntax.specs.Table.{toks}
 use Rattle.syntax.proofs.Symbols.{stands}
-use Rattle.writing.specs.declared.value.Put.{Put}
-use Rattle.writing.specs.Writing.{PutsArray, PutsTuple}
 use Rattle.writing.proofs.ValuePuts.{opens-is, opens_not, array-flat, array-deep, tuple-each, no-type-there, leaf-there}
-use Rattle.writing.proofs.ValuePuts.{PutsRow, row_last, row_next, row-neither}
-use Rattle.writing.proofs.ValuePuts.{AllRead, array-empty, array-some, array-begun, EachRead, tuple-row, tuple-begun}
+use Rattle.writing.proofs.ValuePuts.{row_last, row_next, row-neither}
+use Rattle.writing.proofs.ValuePuts.{array-empty, array-some, array-begun, tuple-row, tuple-begun}
 use borrow.Author.Rules.{rules}
 use Rattle.writing.proofs.value.+put_array_put_base_put_nested_put_tuple.Goals as goal
 
 pub put_array-returns-then-symbol_at-eq-RIGHT_SQUARE : goal.put_array-returns-then-symbol_at-eq-RIGHT_SQUARE
 put_array-returns-then-symbol_at-eq-RIGHT_SQUARE t c = let h = stands c.args.vtext.now c.args.vtable.now c.args.vn c.args.v (sym c.if-symbol_at-eq-RIGHT_SQUARE.true ∙ c.symbol_at.ensures) (omega arith) in
-  record { range = (omega arith, omega (arith, h)); meaning = array-empty c.args.vtext.now c.args.vtable.now c.args.vn c.args.v (toks c.args.ttext.now c.args.ttable.now c.args.tn c.args.t)
-          c.args.k c.symbol_at.result c.symbol_at.ensures c.if-symbol_at-eq-RIGHT_SQUARE.true c.put_mark.ensures }
+    record {
+      range = (omega arith, omega (arith, h));
+      meaning = array-empty c.args.vtext.now c.args.vtable.now c.args.vn c.args.v (toks c.args.ttext.now c.args.ttable.now c.args.tn c.args.t)
+          c.args.k c.symbol_at.result c.symbol_at.ensures c.if-symbol_at-eq-RIGHT_SQUARE.true c.put_mark.ensures;
+    }
 
 pub put_array-loop-out-init : goal.put_array-loop-out-init
 put_array-loop-out-init t c = (
-      omega arith,
-      c.requires.v_le_vn,
-      refl,
-      λ out' r f. array-some c.args.vtext.now c.args.vtable.now c.args.vn c.args.v
-          (toks c.args.ttext.now c.args.ttable.now c.args.tn c.args.t) c.args.k r c.symbol_at.result c.symbol_at.ensures c.if-symbol_at-eq-RIGHT_SQUARE.false f,
-    )
+  omega arith,
+  c.requires.v_le_vn,
+  refl,
+  λ out' r f. array-some c.args.vtext.now c.args.vtable.now c.args.vn c.args.v
+      (toks c.args.ttext.now c.args.ttable.now c.args.tn c.args.t) c.args.k r c.symbol_at.result c.symbol_at.ensures c.if-symbol_at-eq-RIGHT_SQUARE.false f,
+)
 
 pub put_array-put_base-item-requires : goal.put_array-put_base-item-requires
 put_array-put_base-item-requires t c = (omega (arith, c.decreases, c.loop-out.invariant.0), (c.requires.holds, (c.requires.ranged, (c.requires.holds_2, c.loop-out.invariant.1))))
@@ -70,33 +69,39 @@ put_array-loop-out-preserved t c = let h = stands c.args.vtext.now c.args.vtable
 
 pub put_base-put_nested-requires : goal.put_base-put_nested-requires
 put_base-put_nested-requires t c = (
-      omega (arith, c.decreases),
+  omega (arith, c.decreases),
+  (
+    c.requires.holds,
+    (
+      c.requires.ranged,
       (
-        c.requires.holds,
-        (
-          c.requires.ranged,
-          (
-            c.requires.holds_2,
-            opens-is _ c.symbol_at-c.ensures
-                (sym c.opens.ensures ∙ c.if-opens.true),
-          ),
-        ),
+        c.requires.holds_2,
+        opens-is _ c.symbol_at-c.ensures
+            (sym c.opens.ensures ∙ c.if-opens.true),
       ),
-    )
+    ),
+  ),
+)
 
 pub put_base-returns-then-opens : goal.put_base-returns-then-opens
 put_base-returns-then-opens t c = record { range = c.put_nested.ensures.range; meaning = c.put_nested.ensures.meaning }
 
 pub put_base-returns : goal.put_base-returns
 put_base-returns t c = let n = opens_not c.symbol_at-c.result (sym c.opens.ensures ∙ c.if-opens.false) in
-  record { range = c.put_plain.ensures.range; meaning = leaf-there c.args.vtext.now c.args.vtable.now c.args.vn c.args.v c.args.ttext.now c.args.ttable.now c.args.tn c.args.t c.args.k c.symbol_at-c.result c.symbol_at-c.ensures
+    record {
+      range = c.put_plain.ensures.range;
+      meaning = leaf-there c.args.vtext.now c.args.vtable.now c.args.vn c.args.v c.args.ttext.now c.args.ttable.now c.args.tn c.args.t c.args.k c.symbol_at-c.result c.symbol_at-c.ensures
           c.put_plain.result c.symbol_at-at.result n.0 n.1 (λ j. omega (arith, c.shared_slice_known-1.given j)) c.requires.holds c.symbol_at-at.ensures
-          c.put_plain.ensures.meaning }
+          c.put_plain.ensures.meaning;
+    }
 
 pub put_nested-returns-then-k-eq0 : goal.put_nested-returns-then-k-eq0
 put_nested-returns-then-k-eq0 t c = let h = stands c.args.vtext.now c.args.vtable.now c.args.vn c.args.v (sym c.if-c-eq-LEFT_SQUARE.true ∙ c.requires.opens.seen) (omega arith) in
-  record { range = (omega arith, omega (arith, h)); meaning = array-flat c.args.vtext.now c.args.vtable.now c.args.vn c.args.v c.args.ttext.now c.args.ttable.now c.args.tn c.args.t c.args.k
-          c.args.c c.requires.opens.seen c.args.out.now c.args.out.now c.args.s (record { place = c.args.s; next = c.args.v }) c.if-c-eq-LEFT_SQUARE.true c.if-k-eq0.true }
+    record {
+      range = (omega arith, omega (arith, h));
+      meaning = array-flat c.args.vtext.now c.args.vtable.now c.args.vn c.args.v c.args.ttext.now c.args.ttable.now c.args.tn c.args.t c.args.k
+          c.args.c c.requires.opens.seen c.args.out.now c.args.out.now c.args.s (record { place = c.args.s; next = c.args.v }) c.if-c-eq-LEFT_SQUARE.true c.if-k-eq0.true;
+    }
 
 pub put_nested-overflow_add-v : goal.put_nested-overflow_add-v
 put_nested-overflow_add-v t c = let h = stands c.args.vtext.now c.args.vtable.now c.args.vn c.args.v (sym c.if-c-eq-LEFT_SQUARE.true ∙ c.requires.opens.seen) (omega arith) in
@@ -107,13 +112,19 @@ put_nested-put_array-requires t c = let h = stands c.args.vtext.now c.args.vtabl
     (omega (arith, h, c.decreases), (c.requires.holds, (c.requires.ranged, (c.requires.holds_2, omega (arith, h)))))
 
 pub put_nested-returns-then-c-eq-LEFT_SQUARE : goal.put_nested-returns-then-c-eq-LEFT_SQUARE
-put_nested-returns-then-c-eq-LEFT_SQUARE t c = record { range = (omega (arith, c.put_array.ensures.range.0), c.put_array.ensures.range.1); meaning = array-deep c.args.vtext.now c.args.vtable.now c.args.vn c.args.v c.args.ttext.now c.args.ttable.now c.args.tn
-          c.args.t c.args.k c.args.c c.requires.opens.seen c.put_array.result c.if-c-eq-LEFT_SQUARE.true c.if-k-eq0.false c.put_mark-open.ensures c.put_array.ensures.meaning }
+put_nested-returns-then-c-eq-LEFT_SQUARE t c = record {
+  range = (omega (arith, c.put_array.ensures.range.0), c.put_array.ensures.range.1);
+  meaning = array-deep c.args.vtext.now c.args.vtable.now c.args.vn c.args.v c.args.ttext.now c.args.ttable.now c.args.tn
+      c.args.t c.args.k c.args.c c.requires.opens.seen c.put_array.result c.if-c-eq-LEFT_SQUARE.true c.if-k-eq0.false c.put_mark-open.ensures c.put_array.ensures.meaning;
+}
 
 pub put_nested-returns-then-tn-t : goal.put_nested-returns-then-tn-t
 put_nested-returns-then-tn-t t c = let h = stands c.args.vtext.now c.args.vtable.now c.args.vn c.args.v (sym (c.requires.opens.bracket c.if-c-eq-LEFT_SQUARE.false) ∙ c.requires.opens.seen) (omega arith) in
-  record { range = (omega arith, omega (arith, h)); meaning = no-type-there c.args.vtext.now c.args.vtable.now c.args.vn c.args.v c.args.ttext.now c.args.ttable.now c.args.tn c.args.t c.args.k
-          c.args.c c.requires.opens.seen c.args.out.now c.args.out.now c.args.s (record { place = c.args.s; next = c.args.v }) c.if-tn-t.true }
+    record {
+      range = (omega arith, omega (arith, h));
+      meaning = no-type-there c.args.vtext.now c.args.vtable.now c.args.vn c.args.v c.args.ttext.now c.args.ttable.now c.args.tn c.args.t c.args.k
+          c.args.c c.requires.opens.seen c.args.out.now c.args.out.now c.args.s (record { place = c.args.s; next = c.args.v }) c.if-tn-t.true;
+    }
 
 pub put_nested-overflow_add-v-2 : goal.put_nested-overflow_add-v-2
 put_nested-overflow_add-v-2 t c = let h = stands c.args.vtext.now c.args.vtable.now c.args.vn c.args.v (sym (c.requires.opens.bracket c.if-c-eq-LEFT_SQUARE.false) ∙ c.requires.opens.seen) (omega arith) in
@@ -124,17 +135,20 @@ put_nested-put_tuple-requires t c = let h = stands c.args.vtext.now c.args.vtabl
     (omega (arith, h, c.decreases), (c.requires.holds, (c.requires.ranged, (c.requires.holds_2, omega (arith, h)))))
 
 pub put_nested-returns : goal.put_nested-returns
-put_nested-returns t c = record { range = (omega (arith, c.put_tuple.ensures.range.0), c.put_tuple.ensures.range.1); meaning = tuple-each c.args.vtext.now c.args.vtable.now c.args.vn c.args.v c.args.ttext.now c.args.ttable.now c.args.tn
-          c.args.t c.args.k c.args.c c.requires.opens.seen c.put_tuple.result (c.requires.opens.bracket c.if-c-eq-LEFT_SQUARE.false) c.put_mark-open-2.ensures c.put_tuple.ensures.meaning }
+put_nested-returns t c = record {
+  range = (omega (arith, c.put_tuple.ensures.range.0), c.put_tuple.ensures.range.1);
+  meaning = tuple-each c.args.vtext.now c.args.vtable.now c.args.vn c.args.v c.args.ttext.now c.args.ttable.now c.args.tn
+      c.args.t c.args.k c.args.c c.requires.opens.seen c.put_tuple.result (c.requires.opens.bracket c.if-c-eq-LEFT_SQUARE.false) c.put_mark-open-2.ensures c.put_tuple.ensures.meaning;
+}
 
 pub put_tuple-loop-u-init : goal.put_tuple-loop-u-init
 put_tuple-loop-u-init t c = (
-      omega arith,
-      c.requires.v_le_vn,
-      refl,
-      λ out' r f. tuple-row c.args.vtext.now c.args.vtable.now c.args.vn c.args.v
-          (toks c.args.ttext.now c.args.ttable.now c.args.tn c.args.t) r f,
-    )
+  omega arith,
+  c.requires.v_le_vn,
+  refl,
+  λ out' r f. tuple-row c.args.vtext.now c.args.vtable.now c.args.vn c.args.v
+      (toks c.args.ttext.now c.args.ttable.now c.args.tn c.args.t) r f,
+)
 
 pub put_tuple-put_base-item-requires : goal.put_tuple-put_base-item-requires
 put_tuple-put_base-item-requires t c = (omega (arith, c.decreases, c.loop-u.invariant.0), (c.requires.holds, (c.requires.ranged, (c.requires.holds_2, c.loop-u.invariant.1))))

@@ -1,20 +1,16 @@
 -- The proof of the cycle of calls that puts a value. The measure is three times the tokens of the value that are left, and more where
 -- items or a value that may be nested are met. The loops keep that what puts the items left puts all. What each way has put is a law of `ValuePuts`.
-use mathlib.Core.Path.{◌≡◌, refl, sym, ◌∙◌}
+use mathlib.Core.Path.{◌≡◌}
 use mathlib.Core.List.{List}
-use Prim.Native.Nat.{ℕ, ◌+◌, ◌-◌, ◌*◌, ◌≤◌, ◌<◌}
-use native.Mathlib.Omega.{arith}
+use Prim.Native.Nat.{ℕ, ◌+◌, ◌-◌, ◌*◌, ◌≤◌}
 use lib.ListN.{length}
 use Rattle.lexis.specs.Ascii.{ascii}
 use Rattle.lexis.specs.Symbol.{right_round, right_square}
 use Rattle.syntax.specs.Table.{toks}
-use Rattle.syntax.proofs.Symbols.{stands}
 use Rattle.writing.specs.declared.value.Put.{Put}
 use Rattle.writing.specs.Writing.{PutsArray, PutsTuple}
-use Rattle.writing.proofs.ValuePuts.{opens-is, opens_not, array-flat, array-deep, tuple-each, no-type-there, leaf-there}
-use Rattle.writing.proofs.ValuePuts.{PutsRow, row_last, row_next, row-neither}
-use Rattle.writing.proofs.ValuePuts.{AllRead, array-empty, array-some, array-begun, EachRead, tuple-row, tuple-begun}
-use borrow.Author.Rules.{rules}
+use Rattle.writing.proofs.ValuePuts.{PutsRow}
+use Rattle.writing.proofs.ValuePuts.{AllRead, EachRead}
 use Rattle.writing.proofs.value.+put_array_put_base_put_nested_put_tuple.Given as goal
 
 abbrev pub decreases-put_array : goal.decreases-put_array

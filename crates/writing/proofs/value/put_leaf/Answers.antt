@@ -2,7 +2,6 @@
 use mathlib.Core.Path.{refl}
 use native.Mathlib.Omega.{arith}
 use Rattle.syntax.specs.Table.{token_at}
-use borrow.Author.Rules.{rules}
 use Rattle.writing.proofs.value.put_leaf.Goals as goal
 
 pub slice_bounds-put_spelt-count : goal.slice_bounds-put_spelt-count

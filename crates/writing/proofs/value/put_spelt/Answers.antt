@@ -1,7 +1,6 @@
 -- What each way puts is a law of `Leaves`. A number is in range and not too long.
 use native.Mathlib.Omega.{arith}
 use Rattle.writing.proofs.Leaves.{a-number, puts-name, puts-string, puts-truth, puts-extent, puts-number}
-use borrow.Author.Rules.{rules}
 use Rattle.writing.proofs.value.put_spelt.Goals as goal
 
 pub returns-then-kind-eq-NAME : goal.returns-then-kind-eq-NAME

@@ -1,7 +1,6 @@
 -- By the base of the type under its pairs.
 use native.Mathlib.Omega.{arith}
 use Rattle.writing.proofs.ValuePuts.{value-put, value-inside}
-use borrow.Author.Rules.{rules}
 use Rattle.writing.proofs.value.put_value.Goals as goal
 
 pub returns-then-vn-v : goal.returns-then-vn-v

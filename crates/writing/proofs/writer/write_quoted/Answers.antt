@@ -1,5 +1,4 @@
 use mathlib.Core.List.{[], ◌∷◌, ◌++◌}
-use Rattle.writing.specs.Spelling.{quoted}
 use Rattle.writing.proofs.Putting.{stores-byte, stores-then}
 use Rattle.writing.proofs.writer.write_quoted.Goals as goal
 
