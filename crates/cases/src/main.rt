@@ -36,13 +36,8 @@ fn print_answer(rt: &impl Print, a: &lexis::Answer) -> io::Result<()> {
 
 // The first n words of a table, a blank before each.
 fn print_words(rt: &impl Print, table: &[u32], n: usize) -> io::Result<()> {
-    let mut i = 0;
-    while i < n {
-        if i < table.len() {
-            let word = table[i];
-            print!(rt; " {word}")?;
-        }
-        i += 1;
+    for word in table.iter().take(n) {
+        print!(rt; " {word}")?;
     }
     Ok(())
 }
