@@ -2,7 +2,8 @@
 // text of the document, or the four numbers of its refusal. A read or a write that fails is said on standard error.
 #![tactic(auto)]
 
-ghost use Rattle.std.specs.Prelude.{◌≤◌, IfOk, length};
+ghost use Rattle.std.specs.Prelude.{◌<◌, ◌≤◌, IfOk, length, take};
+ghost use Rattle.std.specs.Io.KnownBytes.{Consumes, IsAtEnd};
 
 use canonical::program::show;
 use lexis::limits::Limits;
@@ -15,7 +16,9 @@ const ROOM: usize = Limits::TEXT + 1;
 
 // Reads until the room is full or the input ends, and gives how many bytes it put at the start of the room.
 fn read_full<R: Read>(reader: &mut R, room: &mut [u8]) -> io::Result<usize>
-    ensures { IfOk result (λ n. n ≤ length room.new) }
+    ensures within { IfOk result (λ n. n ≤ length room.new) }
+    ensures bytes { IfOk result (λ n. Consumes (R.remaining reader.old) (R.remaining reader.new) (take n room.new)) }
+    ensures end { IfOk result (λ n. n < length room.new → IsAtEnd (R.remaining reader.new)) }
 {
     let mut n = 0;
     while n < room.len() {
