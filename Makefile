@@ -4,7 +4,7 @@
 #   make install PREFIX= DESTDIR=   copies them, with headers, manual pages and the licence, under DESTDIR/PREFIX
 #   make uninstall PREFIX= DESTDIR= removes them again
 #   make dist                       the archive and headers with checksums and the kit's identity, as target/dist/*.tar.gz
-#   make check                      every test but the proofs, which `.ci/run` does from nothing
+#   make check                      every test but the proofs, which `.ci/run` does
 
 SHELL := bash
 .SHELLFLAGS := -euo pipefail -c
@@ -14,10 +14,10 @@ PREFIX ?= /usr/local
 DESTDIR ?=
 
 version := $(shell sed -n 's/^\#define NNEF_LIBRARY_VERSION "\(.*\)"/\1/p' include/nnef.h)
-archive := target/staticlib/libnnef.a
-program := target/bin/nnef_canon
+archive := crates/nnef/out/libnnef.a
+program := crates/nnef_canon/out/nnef_canon
 command := target/command/release/nnef
-proved := crates.txt $(shell find crates -type f)
+proved := crates.txt $(shell find crates -type f -not -path '*/out/*')
 rust := $(shell find command bindings include -type f -not -path '*/target/*')
 package := sluicegnome-$(version)-x86_64-linux
 installed := bin/nnef bin/nnef_canon lib/libnnef.a lib/pkgconfig/sluicegnome.pc \
@@ -28,15 +28,15 @@ installed := bin/nnef bin/nnef_canon lib/libnnef.a lib/pkgconfig/sluicegnome.pc 
 all: $(archive) $(program) $(command)
 
 $(archive): $(proved)
-	rt staticlib nnef | grep ^rt:
+	(cd crates/nnef && rt lib) | grep -E '^(rt:|logic=)'
 	test -e $@ && touch $@
 
 $(program): $(proved)
-	rt check nnef_canon | grep ^rt:
+	(cd crates/nnef_canon && rt run </dev/null) 2>&1 | grep -E '^(rt:|logic=)'
 	test -e $@ && touch $@
 
 $(command): $(archive) $(rust)
-	NNEF_LIB_DIR=$(CURDIR)/target/staticlib cargo build --quiet --release --offline --manifest-path command/Cargo.toml --target-dir target/command
+	NNEF_LIB_DIR=$(CURDIR)/crates/nnef/out cargo build --quiet --release --offline --manifest-path command/Cargo.toml --target-dir target/command
 	touch $@
 
 target/sluicegnome.pc: sluicegnome.pc.in include/nnef.h FORCE

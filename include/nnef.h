@@ -1,8 +1,8 @@
 /*
  * nnef.h - reads flat NNEF text.
  *
- * Link with libnnef.a, which `rt staticlib nnef` in the repository's root
- * writes to target/staticlib, for x86-64; once it is installed, `pkg-config
+ * Link with libnnef.a, which `rt lib` in the repository's crates/nnef writes
+ * to crates/nnef/out, for x86-64; once it is installed, `pkg-config
  * --cflags --libs sluicegnome` has the flags. Of the C library it asks `memcpy`
  * and `memset` alone.
  *

@@ -1,7 +1,7 @@
 //! Reads flat NNEF graphs by a proved library: checks them against a list of operations, and writes them in one spelling.
 //!
 //! The library is the archive `libnnef.a`. The build finds it in the folder that the environment variable `NNEF_LIB_DIR` names, or in
-//! `target/staticlib` of the repository, where `rt staticlib nnef` puts it. A project takes this crate by its path:
+//! `crates/nnef/out` of the repository, where `rt lib` in `crates/nnef` puts it. A project takes this crate by its path:
 //!
 //! ```toml
 //! [dependencies]

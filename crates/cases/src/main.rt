@@ -2,16 +2,16 @@
 // with the words of its table. M: the same, with a line feed for each backslash. L, D: the bytes and the syntax of an operation list, or of
 // a document, with the number of tokens. C: `check` of a list and a document, with ` | ` between them. N: `check` of a document that is made
 // here, with so many calls.
-ghost use Rattle.std.specs.Prelude.{◌≡◌, ◌≤◌, length};
+#![tactic(auto)]
+
+ghost use Rattle.std.specs.Prelude.{◌≡◌, ◌≤◌, IfOk, length};
 
 use lexis::Counted;
 use lexis::code::Code;
 use lexis::limits::Limits;
+use std::io;
+use std::io::Read;
 use syntax::Syntax;
-
-fn wide(x: u32) -> u64 {
-    x as u64
-}
 
 fn size(x: u32) -> usize
     ensures { result ≡ x }
@@ -25,43 +25,34 @@ fn byte_size(x: u8) -> usize
     x as usize
 }
 
-fn print_number(x: u32) {
-    io::print_decimal(1, wide(x));
-}
-
 // The four numbers, one blank between.
-fn print_answer(a: lexis::Answer) {
-    print_number(a.code);
-    io::write_all(1, b" ");
-    print_number(a.text);
-    io::write_all(1, b" ");
-    print_number(a.position);
-    io::write_all(1, b" ");
-    print_number(a.detail);
+fn print_answer(rt: &impl Print, a: &lexis::Answer) -> io::Result<()> {
+    let code = a.code;
+    let text = a.text;
+    let position = a.position;
+    let detail = a.detail;
+    print!(rt; "{code} {text} {position} {detail}")
 }
 
 // The first n words of a table, a blank before each.
-fn print_words(table: &[u32], n: usize) {
-    let mut i = 0;
-    while i < n {
-        if i < table.len() {
-            io::write_all(1, b" ");
-            print_number(table[i]);
-        }
-        i += 1;
+fn print_words(rt: &impl Print, table: &[u32], n: usize) -> io::Result<()> {
+    for word in table.iter().take(n) {
+        print!(rt; " {word}")?;
     }
+    Ok(())
 }
 
-fn tokens_case(text: &[u8]) {
+fn tokens_case(rt: &impl Print, text: &[u8]) -> io::Result<()> {
     let mut table = [0u32; Limits::TABLE_WORDS];
     let a = lexis::tokens(text, &mut table);
-    print_answer(a);
+    print_answer(rt, &a)?;
     if a.code == Code::ACCEPTED {
         if size(a.detail) <= Limits::TOKENS {
-            io::write_all(1, b" :");
-            print_words(&table, size(a.detail) * Limits::TOKEN_WORDS);
+            print!(rt; " :")?;
+            print_words(rt, &table, size(a.detail) * Limits::TOKEN_WORDS)?;
         }
     }
+    Ok(())
 }
 
 // A line feed for a backslash.
@@ -86,58 +77,63 @@ fn put_lines(out: &mut [u8], text: &[u8]) -> usize
 }
 
 // The tokens of a text of several lines.
-fn lines_case(text: &[u8]) {
+fn lines_case(rt: &impl Print, text: &[u8]) -> io::Result<()> {
     let mut lines = [0u8; Limits::TEXT];
     let n = put_lines(&mut lines, text);
-    tokens_case(&lines[0..n]);
+    tokens_case(rt, &lines[0..n])
 }
 
 // The answer of reading a text: how many tokens, or the first fault.
-fn syntax_case(text: &[u8], which: Syntax) {
+fn syntax_answer(text: &[u8], which: Syntax) -> lexis::Answer {
     if !Limits::text_fits(text.len()) {
-        print_answer(lexis::Answer {
+        return lexis::Answer {
             code: Code::LONG_TEXT,
             text: 1,
             position: Limits::TEXT as u32,
             detail: 0,
-        });
-        return;
+        };
     }
     let classes = lexis::class::CLASSES;
     let mut work = [0u32; Limits::WORK_WORDS];
     match syntax::read(&classes, text, &mut work, which) {
-        Counted::Tokens(n) => print_answer(lexis::Answer {
+        Counted::Tokens(n) => lexis::Answer {
             code: Code::ACCEPTED,
             text: 0,
             position: 0,
             detail: n,
-        }),
-        Counted::Fault { code, at } => print_answer(lexis::Answer {
+        },
+        Counted::Fault { code, at } => lexis::Answer {
             code: code,
             text: 1,
             position: at,
             detail: 0,
-        }),
+        },
     }
 }
 
+fn syntax_case(rt: &impl Print, text: &[u8], which: Syntax) -> io::Result<()> {
+    print_answer(rt, &syntax_answer(text, which))
+}
+
 // The answer of `check` for a document under a list.
-fn check_case(list: &[u8], document: &[u8]) {
+fn check_case(rt: &impl Print, list: &[u8], document: &[u8]) -> io::Result<()> {
     let mut work1 = [0u32; Limits::WORK_WORDS];
     let mut work2 = [0u32; Limits::WORK_WORDS];
     let mut calls = [0u32; Limits::CALL_WORDS];
     let mut wires = [0u32; Limits::WIRE_WORDS];
-    print_answer(documents::check::check(
+    let a = documents::check::check(
         list, document, &mut work1, &mut work2, &mut calls, &mut wires,
-    ));
+    );
+    print_answer(rt, &a)
 }
 
 // A list before `|`, and a document behind it and one blank.
-fn pair_case(text: &[u8]) {
+fn pair_case(rt: &impl Print, text: &[u8]) -> io::Result<()> {
     let bar = end_of(text, 0, b'|');
     if bar + 2 <= text.len() {
-        check_case(&text[0..bar], &text[bar + 2..]);
+        check_case(rt, &text[0..bar], &text[bar + 2..])?;
     }
+    Ok(())
 }
 
 // A number with one digit more; only a digit counts, and no fifth one.
@@ -204,43 +200,34 @@ fn put_calls(out: &mut [u8], n: usize) -> usize
 }
 
 // A document of so many calls.
-fn calls_case(text: &[u8]) {
+fn calls_case(rt: &impl Print, text: &[u8]) -> io::Result<()> {
     let mut document = [0u8; Limits::TEXT];
     let n = put_calls(&mut document, number(text));
     check_case(
+        rt,
         b"fragment external(shape: extent[]) -> (y: tensor) fragment items(x: tensor) -> (ys: tensor[])",
         &document[0..n],
-    );
+    )
 }
 
 // One case: its line, and its answer below.
-fn case(line: &[u8]) {
-    io::write_all(1, line);
-    io::write_all(1, b"\n");
+fn case(rt: &impl Print, line: &[u8]) -> io::Result<()> {
+    rt.write_all(line)?;
+    println!(rt)?;
     if line.len() < 2 {
-        return;
+        return Ok(());
     }
-    let which = line[0];
     let text = &line[2..];
-    if which == b'T' {
-        tokens_case(text);
+    match line[0] {
+        b'T' => tokens_case(rt, text)?,
+        b'M' => lines_case(rt, text)?,
+        b'L' => syntax_case(rt, text, Syntax::List)?,
+        b'D' => syntax_case(rt, text, Syntax::Document)?,
+        b'C' => pair_case(rt, text)?,
+        b'N' => calls_case(rt, text)?,
+        _ => {}
     }
-    if which == b'M' {
-        lines_case(text);
-    }
-    if which == b'L' {
-        syntax_case(text, Syntax::List);
-    }
-    if which == b'D' {
-        syntax_case(text, Syntax::Document);
-    }
-    if which == b'C' {
-        pair_case(text);
-    }
-    if which == b'N' {
-        calls_case(text);
-    }
-    io::write_all(1, b"\n");
+    println!(rt)
 }
 
 // The first place of a byte from a position on, or the end of the text.
@@ -258,17 +245,33 @@ fn end_of(s: &[u8], from: usize, byte: u8) -> usize
     i
 }
 
-fn cases(s: &[u8]) {
+fn cases(rt: &impl Print, s: &[u8]) -> io::Result<()> {
     let mut at = 0;
     while at < s.len() {
-        let end = end_of(s, at, 10);
-        case(&s[at..end]);
+        let end = end_of(s, at, b'\n');
+        case(rt, &s[at..end])?;
         at = end + 1;
     }
+    Ok(())
 }
 
-fn main() {
-    let mut buffer = io::large_buffer();
-    let n = io::read_full(0, &mut buffer);
-    cases(&buffer[..n]);
+// Reads until the room is full or the input ends, and gives how many bytes it put at the start of the room.
+fn read_full<R: Read>(reader: &mut R, room: &mut [u8]) -> io::Result<usize>
+    ensures { IfOk result (λ n. n ≤ length room.new) }
+{
+    let mut n = 0;
+    while n < room.len() {
+        let count = reader.read(&mut room[n..])?;
+        if count == 0 {
+            break;
+        }
+        n += count;
+    }
+    Ok(n)
+}
+
+fn main(rt: HostRuntime) -> io::Result<()> {
+    let mut buffer = [0u8; 65536];
+    let n = read_full(&mut rt.stdin(), &mut buffer)?;
+    cases(&rt, &buffer[..n])
 }

@@ -1,4 +1,6 @@
 // The operations under their C names.
+#![tactic(auto)]
+
 ghost use Rattle.std.specs.Prelude.{◌≡◌, length};
 ghost use Rattle.spellings.specs.Comparison.{comparison, words_of};
 ghost use Rattle.lexis.specs.Answer.{tokens_answer, tokens_table};

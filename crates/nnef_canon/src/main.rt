@@ -1,63 +1,83 @@
 // The program: reads the operation list in the file `declarations.nnef` and a document from standard input, and writes the canonical
 // text of the document, or the four numbers of its refusal. A read or a write that fails is said on standard error.
+#![tactic(auto)]
+
+ghost use Rattle.std.specs.Prelude.{◌<◌, ◌≤◌, IfOk, length, take};
+ghost use Rattle.std.specs.Io.KnownBytes.{Consumes, IsAtEnd};
+
 use canonical::program::show;
 use lexis::limits::Limits;
-use libc::{STDIN_FILENO, STDOUT_FILENO};
+use std::fs::File;
+use std::io;
+use std::io::Read;
 
 // A text of at most 16,384 bytes, and one byte more, so that a longer one is told apart.
 const ROOM: usize = Limits::TEXT + 1;
 
-// Whether n bytes are all that was to be read: there is no room for more, or the input ends after them. Reading stops at the end and at
-// a failure alike; one more read tells them apart.
-fn is_read(fd: i32, n: usize) -> bool {
-    if n == ROOM {
-        return true;
+// Reads until the room is full or the input ends, and gives how many bytes it put at the start of the room.
+fn read_full<R: Read>(reader: &mut R, room: &mut [u8]) -> io::Result<usize>
+    ensures within { IfOk result (λ n. n ≤ length room.new) }
+    ensures bytes { IfOk result (λ n. Consumes (R.remaining reader.old) (R.remaining reader.new) (take n room.new)) }
+    ensures end { IfOk result (λ n. n < length room.new → IsAtEnd (R.remaining reader.new)) }
+{
+    let mut n = 0;
+    while n < room.len() {
+        let count = reader.read(&mut room[n..])?;
+        if count == 0 {
+            break;
+        }
+        n += count;
     }
-    let mut next = [0u8; 1];
-    libc::read(fd, &mut next) == 0
+    Ok(n)
+}
+
+// Says on standard error what failed.
+fn fail(rt: &impl Eprint, what: &str, error: io::Error) {
+    let _ = eprintln!(rt; "nnef_canon: {what}: {error}");
 }
 
 // Writes bytes to standard output, or says that it cannot.
-fn write_out(bytes: &[u8]) {
-    if !io::write_all(STDOUT_FILENO, bytes) {
-        os::fail(b"nnef_canon: cannot write standard output");
+fn write_out(rt: &(impl Print + Eprint), bytes: &[u8]) {
+    if let Err(error) = rt.write_all(bytes) {
+        fail(rt, "cannot write standard output", error);
     }
 }
 
 // Writes what is to be shown of a document under a list.
-fn write_shown(list: &[u8], document: &[u8]) {
+fn write_shown(rt: &(impl Print + Eprint), list: &[u8], document: &[u8]) {
     let mut work1 = [0u32; Limits::WORK_WORDS];
     let mut work2 = [0u32; Limits::WORK_WORDS];
     let mut out = [0u8; Limits::TEXT];
     let count = show(list, document, &mut work1, &mut work2, &mut out);
     if count <= out.len() {
-        write_out(&out[0..count]);
+        write_out(rt, &out[0..count]);
     }
 }
 
 // Reads a document and writes what is to be shown of it under this list.
-fn run(list: &[u8]) {
+fn run(rt: &HostRuntime, list: &[u8]) {
     let mut document = [0u8; ROOM];
-    let n = io::read_full(STDIN_FILENO, &mut document);
-    if !is_read(STDIN_FILENO, n) {
-        os::fail(b"nnef_canon: cannot read standard input");
-        return;
+    match read_full(&mut rt.stdin(), &mut document) {
+        Ok(n) => write_shown(rt, list, &document[..n]),
+        Err(error) => fail(rt, "cannot read standard input", error),
     }
-    write_shown(list, &document[..n]);
 }
 
-fn main() {
-    let file = os::open_read(b"declarations.nnef");
-    if file < 0 {
-        write_out(b"no list\n");
+// Reads the list, and closes its file before standard input is read.
+fn read_list(mut file: File, list: &mut [u8]) -> io::Result<usize>
+    ensures { IfOk result (λ n. n ≤ length list.new) }
+{
+    read_full(&mut file, list)
+}
+
+fn main(rt: HostRuntime) {
+    let Ok(file) = File::open(&rt, "declarations.nnef") else {
+        write_out(&rt, b"no list\n");
         return;
-    }
+    };
     let mut list = [0u8; ROOM];
-    let n = io::read_full(file, &mut list);
-    if !is_read(file, n) {
-        os::fail(b"nnef_canon: cannot read declarations.nnef");
-        return;
+    match read_list(file, &mut list) {
+        Ok(n) => run(&rt, &list[..n]),
+        Err(error) => fail(&rt, "cannot read declarations.nnef", error),
     }
-    libc::close(file);
-    run(&list[..n]);
 }
