@@ -8,7 +8,6 @@ pub mod Found
 -- The code that puts the pieces into the output: parts one after the other, and whole texts.
 pub mod Putting
 pub mod Measures
--- Writers.
 -- Spellings, values, arguments, names and left sides.
 pub mod Spelled
 pub mod Signs

@@ -1,5 +1,5 @@
-// A writer: it borrows the lent output, and knows the position of the next byte in it. Each function that takes, makes, returns or
-// has a local of one is proved by a walk of its MIR, by hand; the work is done by `put_byte` and `put_bytes`, which are covered.
+// A writer: it borrows the lent output, and knows the position of the next byte in it. It is lent to what writes on, and passed by value to
+// what ends it: so what the output ends as is known where it was made. The work is done by `put_byte` and `put_bytes`.
 ghost use Rattle.std.specs.Prelude.{◌≡◌, ◌∷◌, [], ◌++◌};
 ghost use Rattle.writing.specs.Spelling.{quoted};
 ghost use Rattle.writing.specs.Writing.{passed, stored};
@@ -21,28 +21,20 @@ pub fn new<'a>(out: &'a mut [u8], at: usize) -> Writer<'a>
     Writer { out, at }
 }
 
-// Writes one byte, and hands the writer back.
-pub fn byte<'a>(w: Writer<'a>, b: u8) -> Writer<'a>
-    ensures { result ≡ wrote w.entry (b ∷ []) }
+// Writes one byte.
+pub fn byte(w: &mut Writer<'_>, b: u8)
+    ensures { w.new ≡ wrote w.old (b ∷ []) }
 {
     let at = w.at;
-    let next = put_byte(&mut *w.out, at, b);
-    Writer {
-        out: w.out,
-        at: next,
-    }
+    w.at = put_byte(&mut *w.out, at, b);
 }
 
-// Writes all bytes of a word, and hands the writer back.
-pub fn bytes<'a, 'b>(w: Writer<'a>, word: &'b [u8]) -> Writer<'a>
-    ensures { result ≡ wrote w.entry word.now }
+// Writes all bytes of a word.
+pub fn bytes(w: &mut Writer<'_>, word: &[u8])
+    ensures { w.new ≡ wrote w.old word.now }
 {
     let at = w.at;
-    let next = put_bytes(&mut *w.out, at, word);
-    Writer {
-        out: w.out,
-        at: next,
-    }
+    w.at = put_bytes(&mut *w.out, at, word);
 }
 
 // Writes the last byte, and gives the position after it.
@@ -59,9 +51,10 @@ pub fn write_quoted(out: &mut [u8], at: usize, quote: u8, content: &[u8]) -> usi
     ensures value { result ≡ passed at (quoted quote content.now) }
     ensures out_after { out.new ≡ stored out.old at (quoted quote content.now) }
 {
-    let opened = put_byte(&mut *out, at, quote);
-    let filled = put_bytes(&mut *out, opened, content);
-    put_byte(out, filled, quote)
+    let mut w = new(out, at);
+    byte(&mut w, quote);
+    bytes(&mut w, content);
+    end(w, quote)
 }
 
 // The bytes of a word and one byte of white space, from a position on, and the position after them.
@@ -69,6 +62,7 @@ pub fn write_line(out: &mut [u8], at: usize, word: &[u8], space: u8) -> usize
     ensures value { result ≡ passed at (word.now ++ (space ∷ [])) }
     ensures out_after { out.new ≡ stored out.old at (word.now ++ (space ∷ [])) }
 {
-    let filled = put_bytes(&mut *out, at, word);
-    put_byte(out, filled, space)
+    let mut w = new(out, at);
+    bytes(&mut w, word);
+    end(w, space)
 }

@@ -4,4 +4,4 @@ use Rattle.writing.proofs.writer.byte.Goals as goal
 
 pub returns : goal.returns
 unfolding passed stored
-returns c = rw (c.put_byte-next.ensures.out_after, c.put_byte-next.ensures.value) refl
+returns c = rw (c.put_byte-w.ensures.out_after, c.put_byte-w.ensures.value) refl

@@ -1,9 +1,15 @@
-use mathlib.Core.List.{[], ◌∷◌}
-use Rattle.writing.proofs.Putting.{stores-byte, stores-then}
+use Rattle.std.proofs.Common.{rules, refl, ◌≡◌, ◌∷◌, [], ◌++◌}
+use Rattle.writing.specs.Writing.{stored}
+use Rattle.writing.proofs.Putting.{passed-append, stored-append}
 use Rattle.writing.proofs.writer.write_line.Goals as goal
 
-pub returns : goal.returns
-returns c =
-    let p = stores-then c.args.out.now c.args.at c.args.word.now (c.args.space ∷ []) (c.put_bytes-filled.ensures.value, c.put_bytes-filled.ensures.out_after)
-    (stores-byte c.put_bytes-filled.new.out c.put_bytes-filled.result c.args.space (c.put_byte.ensures.value, c.put_byte.ensures.out_after)) in
-    record { value = p.0; out_after = p.1 }
+pub returns-clause-value : goal.returns-clause-value
+returns-clause-value c =
+    rw (c.end.ensures.value, c.bytes.ensures, c.new-w.ensures.1, passed-append c.args.at c.args.word.now (c.args.space ∷ [])) refl
+
+pub returns-clause-out_after : goal.returns-clause-out_after
+returns-clause-out_after c =
+    let last = stored-append c.args.out.now c.args.at c.args.word.now (c.args.space ∷ []) in
+    let p : c.end.new.w.0 ≡ stored c.args.out.now c.args.at (c.args.word.now ++ c.args.space ∷ []) =
+    rw (c.end.ensures.w_value, c.bytes.ensures, c.new-w.ensures.0, c.new-w.ensures.1, last) refl in
+    search (rules, p)
