@@ -39,6 +39,7 @@ pub fn one_more(n: usize) -> usize
 }
 
 // Stores one byte at a position, if the output reaches it, and gives the position after it.
+#[tactic(auto, unfolding(crate::specs::Writing::store_byte))]
 pub fn put_byte(out: &mut [u8], at: usize, b: u8) -> usize
     ensures value { result ≡ one_more at }
     ensures out_after { out.new ≡ store_byte out.old at b }
