@@ -7,9 +7,10 @@ ghost use Rattle.std.specs.Io.KnownBytes.{Consumes, IsAtEnd};
 
 use canonical::program::show;
 use lexis::limits::Limits;
+use std::fmt::Write as _;
 use std::fs::File;
-use std::io;
-use std::io::Read;
+use std::io::{Read, Write};
+use std::{fmt, io};
 
 // A text of at most 16,384 bytes, and one byte more, so that a longer one is told apart.
 const ROOM: usize = Limits::TEXT + 1;
@@ -31,20 +32,65 @@ fn read_full<R: Read>(reader: &mut R, room: &mut [u8]) -> io::Result<usize>
     Ok(n)
 }
 
-// Says on standard error what failed.
-fn fail(rt: &impl Eprint, what: &str, error: io::Error) {
-    let _ = eprintln!(rt; "nnef_canon: {what}: {error}");
+// As many bytes as the words of an error may have.
+const WORDS: usize = 256;
+
+// The words of an error.
+#[derive(Drop)]
+struct Words {
+    bytes: [u8; WORDS],
+    len: usize,
+}
+
+impl fmt::Write for Words {
+    // Adds a text, as far as there is room.
+    fn write_str(&mut self, text: &str) -> fmt::Result {
+        for b in text.as_bytes() {
+            let len = self.len;
+            if len < WORDS {
+                self.bytes[len] = *b;
+                self.len = len + 1;
+            }
+        }
+        Ok(())
+    }
+}
+
+// Where the number of an error stands behind its words, or the end.
+fn words_end(text: &[u8]) -> usize
+    ensures { result ≤ length text.now }
+{
+    for i in 0..text.len() {
+        if text[i..].starts_with(b" (os error ") {
+            return i;
+        }
+    }
+    text.len()
+}
+
+// Says on standard error what failed, and why.
+fn fail(rt: &HostRuntime, what: &str, error: io::Error) {
+    let mut words = Words {
+        bytes: [0; WORDS],
+        len: 0,
+    };
+    let _ = write!(words, "{error}");
+    let len = words.len.min(WORDS);
+    let text = &words.bytes[..len];
+    let _ = eprint!(rt; "nnef_canon: {what}: ");
+    let _ = rt.stderr().write_all(&text[..words_end(text)]);
+    let _ = eprintln!(rt);
 }
 
 // Writes bytes to standard output, or says that it cannot.
-fn write_out(rt: &(impl Print + Eprint), bytes: &[u8]) {
+fn write_out(rt: &HostRuntime, bytes: &[u8]) {
     if let Err(error) = rt.write_all(bytes) {
         fail(rt, "cannot write standard output", error);
     }
 }
 
 // Writes what is to be shown of a document under a list.
-fn write_shown(rt: &(impl Print + Eprint), list: &[u8], document: &[u8]) {
+fn write_shown(rt: &HostRuntime, list: &[u8], document: &[u8]) {
     let mut work1 = [0u32; Limits::WORK_WORDS];
     let mut work2 = [0u32; Limits::WORK_WORDS];
     let mut out = [0u8; Limits::TEXT];
