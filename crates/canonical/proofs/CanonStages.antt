@@ -5,19 +5,17 @@ use mathlib.Core.Bool.{Bool, true, false, ◌&&◌, and-eq-true_iff, true≢fals
 use mathlib.Core.List.{List, []}
 use mathlib.Core.Option.{Option, some}
 use mathlib.Core.Option.{none as nothing}
-use Prim.Native.Nat.{ℕ, ◌-◌, ◌*◌, ◌≤◌, ◌<◌}
+use Prim.Native.Nat.{ℕ, ◌*◌, ◌≤◌, ◌<◌}
 use native.Mathlib.Omega.{arith}
 use native.Mathlib.Nat.{zero-add}
 use borrow.Author.Tests.{le-leb, lt-leb, leb-true}
 use lib.Dec.{leb}
 use lib.ListN.{length, get_or, take, replicate}
 use Rattle.lexis.specs.Sizes.{max_text, max_tokens, max_calls}
-use Rattle.lexis.specs.Bytes.{class_table}
 use Rattle.lexis.specs.Code as L
 use Rattle.lexis.specs.Answer.{answer}
 use Rattle.lexis.specs.declared.Answer.{Answer}
 use Rattle.syntax.specs.Tree.{Header, Document}
-use Rattle.syntax.specs.Table.{Holds}
 use Rattle.lists.specs.Fault.{first}
 use Rattle.lists.specs.ListRules.{list_faults}
 use Rattle.lists.specs.Stages.{ListPassed}
@@ -27,7 +25,6 @@ use Rattle.lists.proofs.First.{first-none}
 use Rattle.documents.specs.DocumentRules.{document_faults}
 use Rattle.documents.specs.Answer.{both_stages, Checked}
 use Rattle.documents.proofs.Refusals.{both-codes}
-use Rattle.documents.specs.declared.stages.Sizes.{Sizes}
 use Rattle.documents.specs.Judged.{Directed, Readable}
 use Rattle.documents.specs.Records.{call_size, records_words}
 use Rattle.documents.specs.Stages.{DocumentPassed}
@@ -38,11 +35,11 @@ use Rattle.writing.specs.Plan.{Plan, plan_calls, plan_of}
 use Rattle.writing.specs.Pieces.{Piece, text}
 use Rattle.writing.specs.Layout.{document_pieces}
 use Rattle.canonical.specs.Answer.{laid_out, layout_of, writing_stages, text_stages, CanonRoom, canon_room, canon_serves, written, canon_answer, output_after}
-use Rattle.writing.specs.Writing.{stored, place_after, keeps_limits, PutsAll, all-put, left_over, Ranged}
+use Rattle.writing.specs.Writing.{max_count, stored, place_after, keeps_limits, PutsAll, all-put, left_over, Ranged}
 use Rattle.writing.specs.Writing.{CallsRecorded, ReadableOps, PutsDocument}
+use Rattle.canonical.specs.declared.texts.Texts.{Texts}
 use Rattle.canonical.specs.Inner.{Wrote, TextsKept}
 use Rattle.writing.specs.declared.place.Place.{Place}
-use Rattle.writing.proofs.Putting.{stored-length}
 use Rattle.writing.proofs.Measures.{passed_is, stored_is, stored-front, limits-kept, ranged}
 use Rattle.writing.proofs.PlanExists.{plan-exists}
 use Rattle.writing.proofs.Planned.{bound}
@@ -104,24 +101,24 @@ module _ {ps : List Piece} {out out' : List ℕ} {s : Place} where
 
 -- ---- a document that has passed
 
-module _ {list doc work₁ work₂ words records : List ℕ} {z : Sizes} (b : TextsKept list doc work₁ work₂ words records z) where
-  abbrev listed : ListPassed list work₁ b.index words z.list z.operations
+module _ {t : Texts} (b : TextsKept t) where
+  abbrev listed : ListPassed t.list.now.text.now t.list.now.table.now b.index t.words.now t.list.now.count b.operations
   listed = b.both.passed.first
 
   abbrev headers : List Header
   headers = listed.headers
 
-  abbrev read : DocumentPassed headers doc work₂ z.document
+  abbrev read : DocumentPassed headers t.doc.now.text.now t.doc.now.table.now t.doc.now.count
   read = b.both.passed.second
 
   abbrev tree : Document
   tree = read.document
 
   list-faultless : first (list_faults headers) ≡ nothing
-  list-faultless = list-clean list headers listed.stages
+  list-faultless = list-clean t.list.now.text.now headers listed.stages
 
   faultless : document_faults headers tree ≡ []
-  faultless = first-none (document_faults headers tree) (document-clean headers doc tree read.stages)
+  faultless = first-none (document_faults headers tree) (document-clean headers t.doc.now.text.now tree read.stages)
 
   pub plan : (p : Plan) × (plan_of headers tree ≡ some p)
   plan = plan-exists headers tree (first-none (list_faults headers) list-faultless) faultless
@@ -130,54 +127,44 @@ module _ {list doc work₁ work₂ words records : List ℕ} {z : Sizes} (b : Te
   abbrev pub laid : List Piece
   laid = document_pieces headers plan.0
 
-  left-are : (out : ℕ) → text_stages list doc out ≡ writing_stages laid out
+  left-are : (out : ℕ) → text_stages t.list.now.text.now t.doc.now.text.now out ≡ writing_stages laid out
   unfolding text_stages layout_of
   left-are out =
-      ap (λ (s : Stage Checked). and_then s (writes list doc out)) (both_under list doc listed.stages read.stages)
+      ap (λ (s : Stage Checked). and_then s (writes t.list.now.text.now t.doc.now.text.now out)) (both_under t.list.now.text.now t.doc.now.text.now listed.stages read.stages)
       ∙ ap (λ (o : Option Plan). writing_stages (laid_out headers o) out) plan.1
 
   -- what putting it asks and ensures
-  recorded : CallsRecorded list work₁ words records z headers tree.calls
+  recorded : CallsRecorded t.list.now t.words.now t.records.now t.calls headers tree.calls
   unfolding call_table
   recorded = record { operations = listed.directory; clean = list-faultless; counted = b.both.kept.counted; called = b.both.kept.called }
 
-  abbrev directed : Directed list work₁ b.index words z.list
+  abbrev directed : Directed t.list.now.text.now t.list.now.table.now b.index t.words.now t.list.now.count
   directed = record { headers = headers; directs = list-directs listed; walkable = listed.walkable; roomy = listed.roomy }
 
-  ops-readable : ReadableOps words records z.list z.calls
+  ops-readable : ReadableOps t.words.now t.records.now t.list.now.count t.calls
   unfolding plan_of
   ops-readable =
       let x = bound (plan_calls headers tree.calls) _ plan.1 in
       record {
         named = λ i l.
-            let r = readable-calls directed records tree.calls 0 x.there recorded.called i (omega (arith, l, recorded.counted)) in
-            subst (λ (j : ℕ). Readable words z.list (get_or records (j * call_size) 0)) (zero-add i) r;
+            let r = readable-calls directed t.records.now tree.calls 0 x.there recorded.called i (omega (arith, l, recorded.counted)) in
+            subst (λ (j : ℕ). Readable t.words.now t.list.now.count (get_or t.records.now (j * call_size) 0)) (zero-add i) r;
       }
 
-  pub put-asked : (classes : List ℕ) → classes ≡ class_table → records_words ≤ length records
-      → Holds list work₁ z.list × (Ranged classes list work₁ z.list × (ReadableOps words records z.list z.calls
-      × (Holds doc work₂ z.document × (Ranged classes doc work₂ z.document
-      × ((z.calls ≤ max_calls) × (records_words ≤ length records) × (z.document ≤ max_tokens))))))
-  put-asked classes k l = (
-    listed.table,
-    (
-      ranged classes list work₁ z.list k listed.table listed.lexed,
-      (
-        ops-readable,
-        (
-          read.table,
-          (ranged classes doc work₂ z.document k read.table read.lexed, (b.both.kept.few, l, read.small)),
-        ),
-      ),
-    ),
+  pub put-asked : records_words ≤ length t.records.now
+      → Ranged t.list.now.text.now t.list.now.table.now t.list.now.count × (ReadableOps t.words.now t.records.now t.list.now.count t.calls
+      × (Ranged t.doc.now.text.now t.doc.now.table.now t.doc.now.count × ((t.calls ≤ max_calls) × (records_words ≤ length t.records.now) × (t.doc.now.count ≤ max_tokens))))
+  put-asked l = (
+    ranged t.list.now.text.now t.list.now.table.now t.list.now.count listed.table listed.lexed,
+    (ops-readable, (ranged t.doc.now.text.now t.doc.now.table.now t.doc.now.count read.table read.lexed, (b.both.kept.few, l, read.small))),
   )
 
-  pub put-ensured : {out out' : List ℕ} {s : Place} → PutsDocument list work₁ words records doc work₂ z out out' s → PutsAll laid out out' s
+  pub put-ensured : {out out' : List ℕ} {s : Place} → PutsDocument t.list.now t.words.now t.records.now t.doc.now t.calls out out' s → PutsAll laid out out' s
   put-ensured f = f headers tree plan.0 recorded read.parsed faultless plan.1
 
   -- it was put into a buffer
   module _ (out : List ℕ) {buffer buffer' : List ℕ} {s : Place} (w : PutsAll laid buffer buffer' s) where
-    pub too_large : {r : Answer} → keeps_limits s ≡ false → r ≡ answer Code.over_limits 0 0 0 → Wrote (text_stages list doc (length out)) out out r
+    pub too_large : {r : Answer} → keeps_limits s ≡ false → r ≡ answer Code.over_limits 0 0 0 → Wrote (text_stages t.list.now.text.now t.doc.now.text.now (length out)) out out r
     unfolding writing_stages
     too_large f a = let e = sym (limits-are w) ∙ f in wrote-stopped (left-are (length out) ∙ rw e) a refl
 
@@ -188,7 +175,7 @@ module _ {list doc work₁ work₂ words records : List ℕ} {z : Sizes} (b : Te
       counted : s.bytes ≡ length (text laid)
       counted = (in-full w f).0
 
-      pub too_short : {r : Answer} → length out < s.bytes → r ≡ answer Code.short_output 0 0 s.bytes → Wrote (text_stages list doc (length out)) out out r
+      pub too_short : {r : Answer} → length out < s.bytes → r ≡ answer Code.short_output 0 0 s.bytes → Wrote (text_stages t.list.now.text.now t.doc.now.text.now (length out)) out out r
       unfolding writing_stages
       too_short l a =
           let e = kept-limits in
@@ -197,7 +184,7 @@ module _ {list doc work₁ work₂ words records : List ℕ} {z : Sizes} (b : Te
 
       -- its bytes were stored in the output
       written_out : {r : Answer} {out' : List ℕ} → s.bytes ≤ length out → out' ≡ stored out 0 (text laid) → r ≡ answer L.accepted 0 0 s.bytes
-          → Wrote (text_stages list doc (length out)) out out' r
+          → Wrote (text_stages t.list.now.text.now t.doc.now.text.now (length out)) out out' r
       unfolding writing_stages output_after
       written_out l o a =
           let e = kept-limits in
@@ -208,17 +195,15 @@ module _ {list doc work₁ work₂ words records : List ℕ} {z : Sizes} (b : Te
 
       -- by putting it once more
       pub put-again : {r : Answer} {out' : List ℕ} {s' : Place} → s.bytes ≤ length out → PutsAll laid out out' s' → r ≡ answer L.accepted 0 0 s.bytes
-          → Wrote (text_stages list doc (length out)) out out' r
+          → Wrote (text_stages t.list.now.text.now t.doc.now.text.now (length out)) out out' r
       put-again l v a = written_out l (in-full v (limits-are v ∙ kept-limits)).1 a
 
       -- by copying the front of the buffer
-      pub copied : {r : Answer} {out' : List ℕ} → s.bytes ≤ length out → s.bytes ≤ length buffer' → out' ≡ stored out 0 (take (s.bytes - 0) buffer')
-          → r ≡ answer L.accepted 0 0 s.bytes → Wrote (text_stages list doc (length out)) out out' r
-      copied l k o a =
-          let t = (in-full w f).1 in
-          let fits : length (text laid) ≤ length buffer = omega (arith, k, counted, ap length t ∙ stored-length buffer 0 (text laid)) in
-          let all : s.bytes - 0 ≡ length (text laid) = omega (arith, counted) in
-          let front = ap₂ (λ (x : ℕ) (y : List ℕ). take x y) all t ∙ stored-front buffer (text laid) fits (omega (arith, counted, few s f)) in
+      pub copied : {r : Answer} {front out' : List ℕ} → s.bytes ≤ length out → s.bytes ≤ length buffer → front ≡ take s.bytes buffer'
+          → out' ≡ stored out 0 front → r ≡ answer L.accepted 0 0 s.bytes → Wrote (text_stages t.list.now.text.now t.doc.now.text.now (length out)) out out' r
+      copied l k q o a =
+          let size : length (text laid) ≤ max_count = omega (arith, counted, few s f) in
+          let front = q ∙ ap₂ (λ (x : ℕ) (y : List ℕ). take x y) counted (in-full w f).1 ∙ stored-front buffer (text laid) (omega (arith, k, counted)) size in
           written_out l (o ∙ ap (stored out 0) front) a
 
 -- ---- the guards

@@ -21,8 +21,8 @@ use Rattle.lexis.specs.Number.{sticks}
 use Rattle.lexis.specs.Lexeme.{number_lexeme, word_lexeme, string_lexeme, mark_lexeme, is_pair, is_arrow, takes_equal, lexeme}
 use Rattle.lexis.specs.Lexer.{accepted, refused, prepend, lex_from, Placed}
 use Rattle.lexis.specs.Lexer.{none as no-token, next as token}
-use Rattle.lexis.specs.declared.token.Lexeme.{Lexeme}
-use Rattle.lexis.specs.declared.token.Lexeme.TheVariants.{Token}
+use Rattle.lexis.specs.Lexeme.{Lexeme}
+use Rattle.lexis.specs.Lexeme.Lexeme.{Token}
 use Rattle.lexis.proofs.Lexer.{lex-nil, lex-gap, lex-token}
 use Rattle.lexis.proofs.Marks.{mark-alone, mark-equal}
 use Rattle.writing.specs.Spelling.{decimal, spell_exponent, spell_number, quoted}

@@ -20,7 +20,7 @@ use Rattle.lexis.specs.Number.{Reduced, strip, led, frac_len, sign_len, is_e, ex
 use Rattle.lexis.specs.Number.{exponent_of, reduced_of, is_near, is_small, in_range}
 use Rattle.lexis.specs.Lexeme.{number_lexeme}
 use Rattle.lexis.specs.declared.number.Parts.{Parts}
-use Rattle.lexis.specs.declared.token.Lexeme.TheVariants.{Token}
+use Rattle.lexis.specs.Lexeme.Lexeme.{Token}
 use Rattle.lexis.proofs.Signs.{pos-sub}
 use Rattle.lexis.proofs.Reduction.{strip-is}
 use Rattle.lexis.proofs.Ranges.{range-plain}

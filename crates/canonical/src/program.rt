@@ -3,22 +3,20 @@ ghost use Rattle.std.specs.Prelude.{◌≡◌};
 ghost use Rattle.lists.specs.Answer.{work_after};
 ghost use Rattle.canonical.specs.Answer.{canon_room, written, canon_answer};
 ghost use Rattle.canonical.specs.Program.{printed, shown};
-ghost use Rattle.writing.specs.Writing.{passed, stored};
+ghost use Rattle.writing.specs.Writing.{passed, stored, Wrote};
 ghost use Rattle.canonical.specs.Inner.{number_then};
 
 use crate::canon;
 use lexis::Answer;
-use lexis::code::Code;
-use writing::place::put_byte;
 use writing::spelling::put_digits;
+use writing::writer::Writer;
 
-// Stores a number in decimal and one byte after it, and gives the position after them.
-fn put_number_then(out: &mut [u8], at: usize, n: u32, b: u8) -> usize
-    ensures value { result ≡ passed at (number_then n b) }
-    ensures out_after { out.new ≡ stored out.old at (number_then n b) }
+// Stores a number in decimal and one byte after it.
+fn put_number_then(out: &mut Writer<'_>, n: u32, b: u8)
+    ensures { Wrote (number_then n b) out.old out.new }
 {
-    let end = put_digits(&mut *out, at, n as u64);
-    put_byte(out, end, b)
+    put_digits(out, u64::from(n));
+    out.put_byte(b);
 }
 
 // Stores four numbers from the first byte on, and gives how many bytes they take.
@@ -26,10 +24,12 @@ fn put_numbers(out: &mut [u8], a: Answer) -> usize
     ensures value { result ≡ passed 0 (printed a) }
     ensures out_after { out.new ≡ stored out.old 0 (printed a) }
 {
-    let code = put_number_then(&mut *out, 0, a.code, b' ');
-    let text = put_number_then(&mut *out, code, a.text, b' ');
-    let position = put_number_then(&mut *out, text, a.position, b' ');
-    put_number_then(out, position, a.detail, 10)
+    let mut writer = Writer::new(out);
+    put_number_then(&mut writer, a.code, b' ');
+    put_number_then(&mut writer, a.text, b' ');
+    put_number_then(&mut writer, a.position, b' ');
+    put_number_then(&mut writer, a.detail, 10);
+    writer.place.bytes
 }
 
 // Puts into the output what the program writes, and gives how many bytes that is.
@@ -44,7 +44,7 @@ pub fn show(list: &[u8], doc: &[u8], work1: &mut [u32], work2: &mut [u32], out: 
         (canon_answer list.now doc.now (canon_room work1.old work2.old out.old)) work2.old }
 {
     let a = canon(list, doc, work1, work2, &mut *out);
-    if a.code == Code::ACCEPTED {
+    if a.code == Answer::ACCEPTED {
         return a.detail as usize;
     }
     put_numbers(out, a)

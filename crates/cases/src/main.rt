@@ -6,33 +6,11 @@
 
 ghost use Rattle.std.specs.Prelude.{◌≡◌, ◌≤◌, IfOk, length};
 
-use lexis::Counted;
-use lexis::code::Code;
+use input::read_full;
+use lexis::Answer;
 use lexis::limits::Limits;
 use std::io;
-use std::io::Read;
 use syntax::Syntax;
-
-fn size(x: u32) -> usize
-    ensures { result ≡ x }
-{
-    x as usize
-}
-
-fn byte_size(x: u8) -> usize
-    ensures { result ≡ x }
-{
-    x as usize
-}
-
-// The four numbers, one blank between.
-fn print_answer(rt: &impl Print, a: &lexis::Answer) -> io::Result<()> {
-    let code = a.code;
-    let text = a.text;
-    let position = a.position;
-    let detail = a.detail;
-    print!(rt; "{code} {text} {position} {detail}")
-}
 
 // The first n words of a table, a blank before each.
 fn print_words(rt: &impl Print, table: &[u32], n: usize) -> io::Result<()> {
@@ -43,13 +21,15 @@ fn print_words(rt: &impl Print, table: &[u32], n: usize) -> io::Result<()> {
 }
 
 fn tokens_case(rt: &impl Print, text: &[u8]) -> io::Result<()> {
+    // An array on the stack, as all that the cases lend: no heap, fixed memory.
     let mut table = [0u32; Limits::TABLE_WORDS];
     let a = lexis::tokens(text, &mut table);
-    print_answer(rt, &a)?;
-    if a.code == Code::ACCEPTED {
-        if size(a.detail) <= Limits::TOKENS {
+    print!(rt; "{a}")?;
+    if a.code == Answer::ACCEPTED {
+        let count = a.detail as usize;
+        if count <= Limits::TOKENS {
             print!(rt; " :")?;
-            print_words(rt, &table, size(a.detail) * Limits::TOKEN_WORDS)?;
+            print_words(rt, &table, count * Limits::TOKEN_WORDS)?;
         }
     }
     Ok(())
@@ -68,10 +48,8 @@ fn put_lines(out: &mut [u8], text: &[u8]) -> usize
     ensures { result ≤ length out.old }
 {
     let n = put(&mut *out, 0, text);
-    let mut i = 0;
-    while i < n {
-        out[i] = broken(out[i]);
-        i += 1;
+    for b in &mut out[..n] {
+        *b = broken(*b);
     }
     n
 }
@@ -84,35 +62,20 @@ fn lines_case(rt: &impl Print, text: &[u8]) -> io::Result<()> {
 }
 
 // The answer of reading a text: how many tokens, or the first fault.
-fn syntax_answer(text: &[u8], which: Syntax) -> lexis::Answer {
+fn syntax_answer(text: &[u8], which: Syntax) -> Answer {
     if !Limits::text_fits(text.len()) {
-        return lexis::Answer {
-            code: Code::LONG_TEXT,
-            text: 1,
-            position: Limits::TEXT as u32,
-            detail: 0,
-        };
+        return Answer::long_text(1);
     }
-    let classes = lexis::class::CLASSES;
     let mut work = [0u32; Limits::WORK_WORDS];
-    match syntax::read(&classes, text, &mut work, which) {
-        Counted::Tokens(n) => lexis::Answer {
-            code: Code::ACCEPTED,
-            text: 0,
-            position: 0,
-            detail: n,
-        },
-        Counted::Fault { code, at } => lexis::Answer {
-            code: code,
-            text: 1,
-            position: at,
-            detail: 0,
-        },
+    match syntax::read(text, &mut work, which) {
+        Ok(n) => Answer::accepted(n),
+        Err(fault) => Answer::refused(fault.refusal, 1, fault.at, 0),
     }
 }
 
 fn syntax_case(rt: &impl Print, text: &[u8], which: Syntax) -> io::Result<()> {
-    print_answer(rt, &syntax_answer(text, which))
+    let a = syntax_answer(text, which);
+    print!(rt; "{a}")
 }
 
 // The answer of `check` for a document under a list.
@@ -124,48 +87,28 @@ fn check_case(rt: &impl Print, list: &[u8], document: &[u8]) -> io::Result<()> {
     let a = documents::check::check(
         list, document, &mut work1, &mut work2, &mut calls, &mut wires,
     );
-    print_answer(rt, &a)
+    print!(rt; "{a}")
 }
 
 // A list before `|`, and a document behind it and one blank.
 fn pair_case(rt: &impl Print, text: &[u8]) -> io::Result<()> {
-    let bar = end_of(text, 0, b'|');
-    if bar + 2 <= text.len() {
-        check_case(rt, &text[0..bar], &text[bar + 2..])?;
+    match text.iter().position(|b| *b == b'|') {
+        Some(bar) if bar + 2 <= text.len() => check_case(rt, &text[..bar], &text[bar + 2..]),
+        _ => Ok(()),
     }
-    Ok(())
 }
 
 // A number with one digit more; only a digit counts, and no fifth one.
-fn with_digit(n: usize, digit: u8) -> usize
-    requires { n ≤ 9999 }
-    ensures { result ≤ 9999 }
-{
-    if n < 1000 {
-        if digit >= b'0' {
-            if digit <= b'9' {
-                return n * 10 + byte_size(digit - b'0');
-            }
-        }
+fn with_digit(n: usize, digit: u8) -> usize {
+    match digit {
+        b'0'..=b'9' if n < 1000 => n * 10 + usize::from(digit - b'0'),
+        _ => n,
     }
-    n
 }
 
 // The number that a text says in digits.
 fn number(text: &[u8]) -> usize {
-    let mut n = 0;
-    let mut i = 0;
-    while i < text.len() {
-        n = with_digit(n, text[i]);
-        i += 1;
-    }
-    n
-}
-
-fn least(a: usize, b: usize) -> usize
-    ensures { (result ≤ a) × (result ≤ b) }
-{
-    if a < b { a } else { b }
+    text.iter().fold(0, |n, digit| with_digit(n, *digit))
 }
 
 // Stores bytes from a position on, as far as there is room, and gives the position after them.
@@ -173,12 +116,8 @@ fn put(out: &mut [u8], at: usize, bytes: &[u8]) -> usize
     requires { at ≤ length out.old }
     ensures { result ≤ length out.old }
 {
-    let n = least(bytes.len(), out.len() - at);
-    let mut i = 0;
-    while i < n {
-        out[at + i] = bytes[i];
-        i += 1;
-    }
+    let n = bytes.len().min(out.len() - at);
+    out[at..at + n].copy_from_slice(&bytes[..n]);
     at + n
 }
 
@@ -191,10 +130,8 @@ fn put_calls(out: &mut [u8], n: usize) -> usize
         0,
         b"version 1.0 graph g(a)->(b){a=external(shape=[1]);[b]=items(a);",
     );
-    let mut i = 2;
-    while i < n {
+    for _ in 2..n {
         at = put(&mut *out, at, b"[]=items(a);");
-        i += 1;
     }
     put(out, at, b"}")
 }
@@ -230,44 +167,12 @@ fn case(rt: &impl Print, line: &[u8]) -> io::Result<()> {
     println!(rt)
 }
 
-// The first place of a byte from a position on, or the end of the text.
-fn end_of(s: &[u8], from: usize, byte: u8) -> usize
-    requires { from ≤ length s.now }
-    ensures { (from ≤ result) × (result ≤ length s.now) }
-{
-    let mut i = from;
-    while i < s.len() {
-        if s[i] == byte {
-            return i;
-        }
-        i += 1;
-    }
-    i
-}
-
+// Each line of the input. What stands behind the last line feed is a line where it is not empty.
 fn cases(rt: &impl Print, s: &[u8]) -> io::Result<()> {
-    let mut at = 0;
-    while at < s.len() {
-        let end = end_of(s, at, b'\n');
-        case(rt, &s[at..end])?;
-        at = end + 1;
+    for line in s.split_inclusive(|b| *b == b'\n') {
+        case(rt, line.strip_suffix(b"\n").unwrap_or(line))?;
     }
     Ok(())
-}
-
-// Reads until the room is full or the input ends, and gives how many bytes it put at the start of the room.
-fn read_full<R: Read>(reader: &mut R, room: &mut [u8]) -> io::Result<usize>
-    ensures { IfOk result (λ n. n ≤ length room.new) }
-{
-    let mut n = 0;
-    while n < room.len() {
-        let count = reader.read(&mut room[n..])?;
-        if count == 0 {
-            break;
-        }
-        n += count;
-    }
-    Ok(n)
 }
 
 fn main(rt: HostRuntime) -> io::Result<()> {

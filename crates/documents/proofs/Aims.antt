@@ -22,6 +22,8 @@ use Rattle.lists.specs.Reading.{all_tensor}
 use Rattle.lists.specs.Masks.{mask_of}
 use Rattle.lists.specs.Types.{type_code}
 use Rattle.lists.specs.Directory.{parameter_word}
+use Rattle.lexis.specs.declared.refusal.Refusal.TheVariants.{Misplaced, Misnamed}
+use Rattle.std.proofs.Common.{Ok, Err}
 use Rattle.documents.specs.declared.operation.Operation.{Operation}
 use Rattle.documents.specs.declared.arguments.Tally.{Tally}
 use Rattle.documents.specs.declared.arguments.Aim.{Aim}
@@ -36,21 +38,21 @@ use Rattle.documents.proofs.DirectoryEntries.{nth-below, parameter-at, spelt-as,
 
 -- ---- positional arguments
 
-module _ {ps : List Param} {xs : List Arg} {t : Tally} (v : Value) (s : Tallies ps xs t) (number place : ℕ) where
+module _ {ps : List Param} {xs : List Arg} {t : Tally} (v : Value) (s : Tallies ps xs t) (place : ℕ) where
   led : {b : Bool} → t.leads ≡ b → leads xs ≡ b
   led e = sym s.unnamed ∙ e
 
   refused-place : Turned ps xs (positional v) (some (fault 16 (start_of v))) (bound ps xs)
-      → Aimed ps xs (positional v) v (start_of v) (record { code = 16; number = number; value = place; leads = t.leads })
-  refused-place u = record { unnamed = s.unnamed ∙ sym (leads-same xs v); refuses = λ l. u; binds = λ e. absurd (omega arith) }
+      → Aimed ps xs (positional v) v (start_of v) (record { parameter = Err Misplaced; value = place; leads = t.leads })
+  refused-place u = record { unnamed = s.unnamed ∙ sym (leads-same xs v); serves = u }
 
   -- 16: after a named one
-  pub aim-trailing : t.leads ≡ false → Aimed ps xs (positional v) v (start_of v) (record { code = 16; number = number; value = place; leads = t.leads })
+  pub aim-trailing : t.leads ≡ false → Aimed ps xs (positional v) v (start_of v) (record { parameter = Err Misplaced; value = place; leads = t.leads })
   aim-trailing e = refused-place (turn-trailing ps xs v (led e))
 
   -- beyond the parameters
   pub aim-beyond : t.leads ≡ true → length ps ≤ t.index
-      → Aimed ps xs (positional v) v (start_of v) (record { code = 16; number = number; value = place; leads = t.leads })
+      → Aimed ps xs (positional v) v (start_of v) (record { parameter = Err Misplaced; value = place; leads = t.leads })
   aim-beyond e l =
       let k : length ps ≤ length xs = omega (arith, s.count) in
       refused-place (turn-misplaced ps xs v (led e) (ap takes_place (drop_of_length-le ps k)))
@@ -64,7 +66,7 @@ module _ {ps : List Param} {xs : List Arg} {t : Tally} (v : Value) (s : Tallies 
     counted p k = rw s.count at k
 
     -- for a parameter that is not all tensor
-    pub aim-unfit : b ≡ false → Aimed ps xs (positional v) v (start_of v) (record { code = 16; number = number; value = place; leads = t.leads })
+    pub aim-unfit : b ≡ false → Aimed ps xs (positional v) v (start_of v) (record { parameter = Err Misplaced; value = place; leads = t.leads })
     aim-unfit f =
         let k = number_of d t.index l in
         refused-place (turn-misplaced ps xs v (led e) (nth-takes (counted k.param k.nth) ∙ placed_at k.param k.nth f))
@@ -73,21 +75,21 @@ module _ {ps : List Param} {xs : List Arg} {t : Tally} (v : Value) (s : Tallies 
     binds-place p k f = record { param = p; nth = k; turned = rw s.count (turn-placed ps xs v (led e) (counted p k) (placed_at p k f)) }
 
     -- bound to the parameter at its place
-    pub aim-place : b ≡ true → Aimed ps xs (positional v) v (start_of v) (record { code = 0; number = t.index; value = place; leads = true })
+    pub aim-place : b ≡ true → Aimed ps xs (positional v) v (start_of v) (record { parameter = Ok t.index; value = place; leads = true })
     aim-place f =
         let k = number_of d t.index l in
-        record { unnamed = sym e ∙ s.unnamed ∙ sym (leads-same xs v); refuses = λ z. absurd (omega arith); binds = λ z. binds-place k.param k.nth f }
+        record { unnamed = sym e ∙ s.unnamed ∙ sym (leads-same xs v); serves = binds-place k.param k.nth f }
 
 -- ---- named arguments
 
 module _ {text table words : List ℕ} {n : ℕ} {o : Operation} {ps : List Param} {xs : List Arg} {t : Tally} (d : Declares text table words n o ps)
     (s : Tallies ps xs t) (label : Token) (v : Value) {r : ℕ} (f : NumberOf text table words o label.bytes r) (place : ℕ) where
   refused-name : Turned ps xs (named label v) (some (fault 17 label.start)) (bound ps xs)
-      → Aimed ps xs (named label v) v label.start (record { code = 17; number = r; value = place; leads = false })
-  refused-name u = record { unnamed = sym (leads-named xs label v); refuses = λ l. u; binds = λ e. absurd (omega arith) }
+      → Aimed ps xs (named label v) v label.start (record { parameter = Err Misnamed; value = place; leads = false })
+  refused-name u = record { unnamed = sym (leads-named xs label v); serves = u }
 
   -- 17: no parameter has the name
-  pub aim-unknown : o.count ≤ r → Aimed ps xs (named label v) v label.start (record { code = 17; number = r; value = place; leads = false })
+  pub aim-unknown : o.count ≤ r → Aimed ps xs (named label v) v label.start (record { parameter = Err Misnamed; value = place; leads = false })
   aim-unknown l =
       refused-name (turn-unknown ps xs label v (none_of label ps (λ i p k.
       spelt-as d label.bytes k ∙ f.none l i (let m = nth-below k in omega (arith, d.count)))))
@@ -100,17 +102,16 @@ module _ {text table words : List ℕ} {n : ℕ} {o : Operation} {ps : List Para
     the-only p k = only-nth d.apart (spelt-as d label.bytes k ∙ f.spelt l) k
 
     -- its parameter is bound already
-    pub aim-again : b ≡ true → Aimed ps xs (named label v) v label.start (record { code = 17; number = r; value = place; leads = false })
+    pub aim-again : b ≡ true → Aimed ps xs (named label v) v label.start (record { parameter = Err Misnamed; value = place; leads = false })
     aim-again h = let k = number_of d r l in refused-name (turn-again ps xs label v (the-only k.param k.nth) (flag ∙ h))
 
     -- bound to the parameter of its name
-    pub aim-name : b ≡ false → Aimed ps xs (named label v) v label.start (record { code = 0; number = r; value = place; leads = false })
+    pub aim-name : b ≡ false → Aimed ps xs (named label v) v label.start (record { parameter = Ok r; value = place; leads = false })
     aim-name h =
         let k = number_of d r l in
         record {
           unnamed = sym (leads-named xs label v);
-          refuses = λ z. absurd (omega arith);
-          binds = λ z. record { param = k.param; nth = k.nth; turned = turn-named ps xs label v (the-only k.param k.nth) (flag ∙ h) };
+          serves = record { param = k.param; nth = k.nth; turned = turn-named ps xs label v (the-only k.param k.nth) (flag ∙ h) };
         }
 
 -- ---- either

@@ -4,8 +4,6 @@ use mathlib.Core.Bool.{true, false}
 use mathlib.Core.List.{List}
 use mathlib.Core.Option.{Option, some}
 use Prim.Native.Nat.{ℕ, ◌<◌}
-use native.Mathlib.Omega.{arith}
-use borrow.Author.Tests.{ne_eqb}
 use Rattle.lexis.specs.Lexer.{Token}
 use Rattle.syntax.specs.Tree.{Value, Ty}
 use Rattle.syntax.specs.Grammar.{both}
@@ -14,15 +12,11 @@ use Rattle.syntax.specs.Parser.Parse.{ok}
 use Rattle.syntax.specs.Table.{token_at, toks}
 use Rattle.lists.specs.declared.best.Best.{Best}
 use Rattle.lists.specs.Fault.{Fault, fault, first}
-use Rattle.lists.specs.Best.{meant}
+use Rattle.lists.specs.Best.{clean, meant}
 use Rattle.lists.specs.Names.{start_of}
 use Rattle.lists.specs.Reading.{fits}
 use Rattle.documents.specs.Binding.{misfit}
 use Rattle.documents.proofs.ArgumentCalls.{value-starts}
-
-pub fault-meant : (code p q : ℕ) → 0 < code → p ≡ q → meant (record { at = p; code = code; detail = 0 }) ≡ some (fault code q)
-unfolding meant
-fault-meant code p q h e = simp (ne_eqb code 0 (λ (z : code ≡ 0). omega arith), e)
 
 module _ (text table : List ℕ) (n i b : ℕ) {x : Value} {us : List Token} (h : value both b (toks text table n i) ≡ ok x us) {m : Option Fault} where
   -- a fault at a value's place
@@ -33,6 +27,6 @@ module _ (text table : List ℕ) (n i b : ℕ) {x : Value} {us : List Token} (h 
   unfolding first
   misfit-no u e f = starts-at 18 f ∙ simp e
 
-pub misfit-yes : (x : Value) (u : Ty) {r : Best} → fits x u ≡ true → r ≡ record { at = 0; code = 0; detail = 0 } → meant r ≡ first (misfit u (some x))
+pub misfit-yes : (x : Value) (u : Ty) {r : Best} → fits x u ≡ true → r ≡ clean → meant r ≡ first (misfit u (some x))
 unfolding first meant
 misfit-yes x u e f = ap meant f ∙ simp e

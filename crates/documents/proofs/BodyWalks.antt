@@ -3,6 +3,7 @@
 use mathlib.Core.Path.{◌≡◌, refl, sym, ap, ap₂, subst, ◌∙◌}
 use mathlib.Core.Bool.{Bool, true, false}
 use mathlib.Core.List.{List, [], ◌∷◌, ◌++◌, flat_map, append_assoc, append-nil}
+use Rattle.std.specs.Prelude.{Option as Maybe, Some, None, IfSome, unwrap_or}
 use mathlib.Core.Option.{Option, some}
 use mathlib.Core.Option.{none as nothing}
 use Prim.Native.Nat.{ℕ, suc, ◌+◌, ◌-◌, ◌≤◌, ◌<◌}
@@ -89,6 +90,11 @@ strictly {k} m f n e = by (ltb m max_calls) refl
 five : (w a b j u : Option Fault) → earlier (earlier (earlier (earlier w a) b) j) u ≡ earlier w (earlier (earlier a (earlier b u)) j)
 five w a b j u = simp earlier-assoc (ap (λ (x : Option Fault). earlier w (earlier a (earlier b x))) (earlier-comm j u))
 
+-- its number is that of a word
+pub op-below : (o : Maybe ℕ) {m : ℕ} → IfSome o (λ k. k < suc m) → unwrap_or o 0 < suc m
+op-below None h = omega arith
+op-below (Some k) h = h
+
 module _ (text table index after records wired stored : List ℕ) (n equal : ℕ) (hs : List Header) (ins outs : List Token) (ds : List Call) (c : Call)
     (us : List Token) (w r : Walk) (room : records_words ≤ length records) (state : Walked text table index records hs ins outs ds w)
     (from : CallFrom text table n w.at equal c) where
@@ -97,8 +103,8 @@ module _ (text table index after records wired stored : List ℕ) (n equal : ℕ
       (judged : Judges hs c text table n equal j) (joined : meant middle.best ≡ earlier (meant left.best) (meant j.best))
       (begins : middle.count ≡ w.uses)
       (uses : Uses text table after records wired w.calls (uses_among (toks text table j.close (equal + 3))) middle right)
-      (place assigns used' : ℕ) (place_is : place ≡ c.op.start) (assigns-is : assigns ≡ left.count - w.assigned) (used-is : used' ≡ right.count - w.uses)
-      (store : stored ≡ call_stored wired w.calls (j.op ∷ place ∷ assigns ∷ used' ∷ []))
+      (op place assigns used' : ℕ) (op_is : op ≡ unwrap_or j.op 0) (place_is : place ≡ c.op.start) (assigns-is : assigns ≡ left.count - w.assigned) (used-is : used' ≡ right.count - w.uses)
+      (store : stored ≡ call_stored wired w.calls (op ∷ place ∷ assigns ∷ used' ∷ []))
       (best-is : r.best ≡ right.best) (calls_is : r.calls ≡ w.calls + 1) (assigned-is : r.assigned ≡ left.count) (uses-is : r.uses ≡ right.count)
       (on : equal ≤ r.at) where
     abbrev k : ℕ
@@ -152,14 +158,14 @@ module _ (text table index after records wired stored : List ℕ) (n equal : ℕ
     uses-count = turn.count ∙ ap (λ (l : List Token). length l) (ap (λ (l : List Token). all_used ds ++ l) ends.uses ∙ sym (used-last ds c))
 
     -- the words of the call, where there is no fault
-    op-is : first (operation_faults hs c) ≡ nothing → j.op ≡ index_of hs c.op
+    op-is : first (operation_faults hs c) ≡ nothing → op ≡ index_of hs c.op
     op-is e = by (find hs c.op) refl
       where
-        by : (o : Option Header) → find hs c.op ≡ o → j.op ≡ index_of hs c.op
+        by : (o : Option Header) → find hs c.op ≡ o → op ≡ index_of hs c.op
         by nothing q = let z = sym (unknown hs c q) ∙ e in let y : ◌≡◌ {A = ℕ} 0 1 = cc in absurd (omega arith)
-        by (some h) q = judged.op h q
+        by (some h) q = op_is ∙ ap (λ (o : Maybe ℕ). unwrap_or o 0) (judged.op h q)
 
-    words_are : first (operation_faults hs c) ≡ nothing → j.op ∷ place ∷ assigns ∷ used' ∷ [] ≡ call_record hs c
+    words_are : first (operation_faults hs c) ≡ nothing → op ∷ place ∷ assigns ∷ used' ∷ [] ≡ call_record hs c
     unfolding call_record
     words_are e =
         let a : assigns ≡ length (assigned c) =
@@ -185,8 +191,8 @@ module _ (text table index after records wired stored : List ℕ) (n equal : ℕ
         let clean = clean-uses (all_assigned ds) (all_used ds) (used c) old.uses (first-none _ v.1) in
         let e = turn.state ∙ ap₂ (λ (u : ℕ) (l : List Token). wires_stored made k records u l) begins ends.uses in
         subst (λ (l : List ℕ). TablesRecorded l hs (ds ++ (c ∷ [])))
-        (sym (store ∙ ap (λ (l : List ℕ). call_stored l k (j.op ∷ place ∷ assigns ∷ used' ∷ [])) e))
-        (recorded_more hs ds c records k w.uses (j.op ∷ place ∷ assigns ∷ used' ∷ []) room state.counted.calls state.counted.uses (words_are q.1)
+        (sym (store ∙ ap (λ (l : List ℕ). call_stored l k (op ∷ place ∷ assigns ∷ used' ∷ [])) e))
+        (recorded_more hs ds c records k w.uses (op ∷ place ∷ assigns ∷ used' ∷ []) room state.counted.calls state.counted.uses (words_are q.1)
         low clean old)
 
     pub stepped : Stepped text table n after stored hs ins outs ds c us w r

@@ -1,7 +1,7 @@
 -- From the bytes of a document under a list that has passed to what the stages of both texts come to. Relies on `Acceptance` for what
 -- passes, on `syntax` for the faults of bytes and syntax.
 use mathlib.Core.Path.{◌≡◌, refl, sym, ap, ap₂, subst, ◌∙◌}
-use mathlib.Core.Bool.{Bool, true, cond}
+use mathlib.Core.Bool.{true}
 use mathlib.Core.List.{List, [], map}
 use mathlib.Core.Option.{some}
 use mathlib.Core.Option.{none as nothing}
@@ -9,15 +9,14 @@ use Prim.Native.Nat.{ℕ, ◌*◌, ◌≤◌}
 use native.Mathlib.Nat.{zero-add}
 use native.Mathlib.Omega.{arith}
 use lib.ListN.{length}
-use borrow.Author.Tests.{eq-eqb, ne_eqb}
 use Rattle.lexis.specs.Sizes.{max_tokens, record_words, max_brackets, work_words}
 use Rattle.lexis.specs.Lexer.{Token, Lexed, accepted, refused, lex}
 use Rattle.lexis.specs.Answer.{answer}
 use Rattle.lexis.specs.Work.{Recorded, Room}
 use Rattle.lexis.specs.Answer as LA
 use Rattle.lexis.specs.declared.Answer.{Answer}
-use Rattle.lexis.specs.declared.Counted.{Counted}
-use Rattle.lexis.specs.declared.Counted.TheVariants as C
+use Rattle.lexis.specs.Answer.{Counted}
+use Rattle.lexis.specs.Answer.Counted.{Tokens, Fault as Refused}
 use Rattle.syntax.specs.Tree.{Header, Document}
 use Rattle.syntax.specs.Parser.{Parse, parse_list, parse_document}
 use Rattle.syntax.specs.Parser.Parse.{ok, bad}
@@ -27,7 +26,7 @@ use Rattle.syntax.specs.declared.Syntax.TheVariants as S
 use Rattle.syntax.proofs.Reading.{got}
 use Rattle.syntax.proofs.Theorems.{document-all-read}
 use Rattle.lists.specs.Fault.{first}
-use Rattle.lists.specs.Best.{fault_of, meant}
+use Rattle.lists.specs.Best.{meant_by, fault_of, meant}
 use Rattle.lists.specs.ListRules.{list_faults}
 use Rattle.lists.specs.Answer.{Stage, pass, stop, and_then, bytes_stage, syntax_stage, rules_stage, list_stages}
 use Rattle.lists.specs.Headers.{Numbered}
@@ -38,11 +37,12 @@ use Rattle.documents.specs.DocumentRules.{document_faults}
 use Rattle.documents.specs.Judged.{Directs, Directed}
 use Rattle.documents.specs.Answer.{document_stages, Checked, both_stages}
 use Rattle.documents.specs.Graphs.{Rules}
-use Rattle.documents.specs.Stages.{DocumentRead, BothKept, BothDone, RecordsKept, RecordsDone}
+use Rattle.documents.specs.Stages.{DocumentRead, BothKept, BothDone, RecordsDone}
 use Rattle.documents.specs.declared.document.Ruled.{Ruled}
 use Rattle.documents.specs.declared.stages.Sizes.{Sizes}
-use Rattle.documents.specs.declared.stages.Staged.{Staged}
-use Rattle.documents.specs.declared.stages.Staged.TheVariants.{Passed, Stopped}
+use Rattle.std.proofs.Common.{Result, Ok, Err, Some, None}
+use Rattle.lexis.specs.Refusal.{refusal_number}
+use Rattle.lists.specs.declared.best.Fault.{Fault as Found}
 
 -- ---- what has passed has no fault
 
@@ -61,17 +61,17 @@ document-clean hs text d e = ap first (passed 2 parse_document (document_faults 
 -- ---- bytes and syntax of the document
 
 module _ (text before after : List ℕ) (n : ℕ) (small : n ≤ max_tokens) (large : work_words ≤ length before) where
-  read_by : (l : Lexed) → lex text ≡ l → C.Tokens n ≡ read_after S.Document (length text) l → Recorded true l before after → n * record_words ≤ length before
+  read_by : (l : Lexed) → lex text ≡ l → Tokens n ≡ read_after S.Document (length text) l → Recorded true l before after → n * record_words ≤ length before
       → DocumentRead text after n
   unfolding document_stages
   read_by (refused c p) e h w r = let z : ◌≡◌ {A = ℕ} 0 1 = cc in absurd (omega arith)
   read_by (accepted ts) e h w r = go (parse_document ts) refl h
     where
-      go : (p : Parse Document) → parse_document ts ≡ p → C.Tokens n ≡ agreed (length ts) (parsed (length text) (length ts) p) → DocumentRead text after n
+      go : (p : Parse Document) → parse_document ts ≡ p → Tokens n ≡ agreed (length ts) (parsed (length text) (length ts) p) → DocumentRead text after n
       go (bad c us) q k = let z : ◌≡◌ {A = ℕ} 0 1 = cc in absurd (omega arith)
       go (ok d us) q k =
           let m : n ≡ length ts = cc in
-          let g = got text before after (C.Tokens n) n (ap C.Tokens (m ∙ sym (zero-add (length ts))) ∙ ap LA.counted (sym e))
+          let g = got text before after (Tokens n) n (ap Tokens (m ∙ sym (zero-add (length ts))) ∙ ap LA.counted (sym e))
           (subst (λ (l : Lexed). Recorded true l before after) (sym e) w) (small, r) large refl in
           let same : g.tokens ≡ ts = let y = sym g.is ∙ e in cc in
           let t : toks text after n 0 ≡ ts = g.decoded ∙ same in
@@ -91,22 +91,22 @@ module _ (text before after : List ℕ) (n : ℕ) (small : n ≤ max_tokens) (la
                 ∙ ap (λ (x : Parse Document). and_then (syntax_stage 2 text x) (λ y. rules_stage 2 y (first (document_faults hs y)))) q;
           }
 
-  pub read-document : {x : Counted} → x ≡ read_of S.Document text → x ≡ C.Tokens n → Recorded true (lex text) before after → Room x (length before)
+  pub read-document : {x : Counted} → x ≡ read_of S.Document text → x ≡ Tokens n → Recorded true (lex text) before after → Room x (length before)
       → DocumentRead text after n
   read-document {x} h e w r = read_by (lex text) refl (sym e ∙ h) w (subst (λ (y : Counted). Room y (length before)) e r).1
 
 -- a fault of the bytes or the syntax stops the stages
-pub document-stops : (hs : List Header) (text : List ℕ) {c p : ℕ} {x : Counted} → x ≡ read_of S.Document text → x ≡ C.Fault c p
+pub document-stops : (hs : List Header) (text : List ℕ) {c p : ℕ} {x : Counted} → x ≡ read_of S.Document text → x ≡ Refused c p
     → document_stages hs text ≡ stop (answer c 2 p 0)
 unfolding document_stages
 document-stops hs text {c} {p} h e = go (lex text) (sym e ∙ h)
   where
-    parses : (ts : List Token) (x : Parse Document) → C.Fault c p ≡ agreed (length ts) (parsed (length text) (length ts) x)
+    parses : (ts : List Token) (x : Parse Document) → Refused c p ≡ agreed (length ts) (parsed (length text) (length ts) x)
         → and_then (syntax_stage 2 text x) (λ y. rules_stage 2 y (first (document_faults hs y))) ≡ stop (answer c 2 p 0)
     parses ts (ok d us) k = let z : ◌≡◌ {A = ℕ} 0 1 = cc in absurd (omega arith)
     parses ts (bad d us) k = let a : d ≡ c = cc in let b : place_of (length text) us ≡ p = cc in ap₂ (λ (x y : ℕ). stop (answer x 2 y 0)) a b
 
-    go : (l : Lexed) → C.Fault c p ≡ read_after S.Document (length text) l
+    go : (l : Lexed) → Refused c p ≡ read_after S.Document (length text) l
         → and_then (bytes_stage 2 l) (λ xs. and_then (syntax_stage 2 text (parse_document xs)) (λ y. rules_stage 2 y (first (document_faults hs y)))) ≡ stop
         (answer c 2 p 0)
     go (refused d q) k = let a : d ≡ c = cc in let b : q ≡ p = cc in ap₂ (λ (x y : ℕ). stop (answer x 2 y 0)) a b
@@ -153,17 +153,17 @@ module _ {list doc work₁ work₂ index words : List ℕ} {n k m : ℕ} (l : Li
     done : Rules records l.headers r.document ruled
     done = rules l.headers r.document (list-directs l) r.parsed
 
-    pub rules-stop : (ruled.best.code ≡ 0 → ⊥) → both_stages list doc ≡ stop (answer ruled.best.code 2 ruled.best.at ruled.best.detail)
+    pub rules-stop : {f : Found} → best.fault ≡ Some f → both_stages list doc ≡ stop (answer (refusal_number f.refusal) 2 f.at f.detail)
     unfolding meant
-    rules-stop z =
-        let q : some (fault_of best) ≡ first (document_faults l.headers r.document) = rw (ne_eqb best.code 0 z) at done.found in
+    rules-stop {f} z =
+        let q : some (fault_of f) ≡ first (document_faults l.headers r.document) = rw z at done.found in
         both_under list doc l.stages (r.stages l.headers ∙ ap (rules_stage 2 r.document) (sym q))
 
-    pub rules-pass : ruled.best.code ≡ 0
+    pub rules-pass : best.fault ≡ None
         → BothKept list doc work₁ work₂ index words records (record { list = n; operations = k; document = m; calls = ruled.calls; uses = ruled.uses })
     unfolding meant
     rules-pass z =
-        let none : nothing ≡ meant best = sym (ap (λ (b : Bool). cond b nothing (some (fault_of best))) (eq-eqb best.code 0 z)) in
+        let none : nothing ≡ meant best = sym (ap meant_by z) in
         record {
           passed =
               record {
@@ -181,27 +181,11 @@ module _ {list doc work₁ work₂ index words : List ℕ} {n k m : ℕ} (l : Li
           kept = done.kept (sym none);
         }
 
-pub both-passed : {list doc work₁ work₂ index words records : List ℕ} {x : Staged} {s : Sizes} → BothDone list doc work₁ work₂ index words records x
-    → x ≡ Passed s
-    → BothKept list doc work₁ work₂ index words records s
-both-passed {list} {doc} {work₁} {work₂} {index} {words} {records} d e = subst (BothDone list doc work₁ work₂ index words records) e d
-
-pub both_stopped : (list doc work₁ work₂ index words records : List ℕ) (x : Staged) {r : Answer} → BothDone list doc work₁ work₂ index words records x
-    → x ≡ Stopped r
-    → both_stages list doc ≡ stop r
-both_stopped list doc work₁ work₂ index words records x d e = subst (BothDone list doc work₁ work₂ index words records) e d
-
 -- ---- the records alone
 
-pub records-done : (list doc work₁ work₂ index words records : List ℕ) (x : Staged) → BothDone list doc work₁ work₂ index words records x
-    → RecordsDone list doc records x
-records-done list doc work₁ work₂ index words records (Passed s) d =
+pub records-done : (list doc work₁ work₂ index words records : List ℕ) (x : Result Sizes Answer)
+    → BothDone list doc work₁ work₂ index words records x → RecordsDone list doc records x
+records-done list doc work₁ work₂ index words records (Ok s) d =
     let p = d.passed in
     record { trees = _; stages = both_under list doc p.first.stages p.second.stages; kept = d.kept }
-records-done list doc work₁ work₂ index words records (Stopped r) d = d
-
-pub records-passed : {list doc records : List ℕ} {x : Staged} {s : Sizes} → RecordsDone list doc records x → x ≡ Passed s → RecordsKept list doc records s
-records-passed {list} {doc} {records} d e = subst (RecordsDone list doc records) e d
-
-pub records-stopped : (list doc records : List ℕ) (x : Staged) {r : Answer} → RecordsDone list doc records x → x ≡ Stopped r → both_stages list doc ≡ stop r
-records-stopped list doc records x d e = subst (RecordsDone list doc records) e d
+records-done list doc work₁ work₂ index words records (Err r) d = d

@@ -23,8 +23,11 @@ use Rattle.lists.specs.Directory.ParametersAt.{no-parameter, a-parameter}
 use Rattle.lists.specs.Directory.OperationsAt.{no-operation, an-operation}
 use Rattle.lists.proofs.First.{first-append}
 use Rattle.lists.proofs.Faultless.{neither, few-params, apart-params}
+use Rattle.syntax.specs.declared.tokens.Tokens.{Tokens}
 use Rattle.documents.specs.declared.operation.Operation.{Operation}
-use Rattle.documents.specs.Tallies.{Copied, ParamsRecorded, NamesBelow, Declares, Nth, spelt_at, is_guessed, NumberOf}
+use Rattle.documents.specs.declared.callee.Callee.{Callee}
+use Rattle.documents.specs.Callees.{Called, Takes}
+use Rattle.documents.specs.Tallies.{operation_in, ParamsRecorded, NamesBelow, Declares, Nth, spelt_at, is_guessed, NumberOf}
 use Rattle.documents.specs.Tallies.Nth.{nth-first, after}
 use Rattle.documents.specs.Judged.{Readable}
 
@@ -62,6 +65,10 @@ module _ {text table words : List ℕ} {n : ℕ} where
     number_of i l = numbered i ps (rw d.count at l)
 
 -- ---- the number of a name
+
+pub guessed-below : (text table words : List ℕ) (o : Operation) (w : List ℕ) (r : ℕ) → is_guessed text table words o w r ≡ true → r < o.count
+unfolding is_guessed
+guessed-below text table words o w r e = ltb-true r o.count ((and-eq-true_iff (ltb r o.count) (spelt_at text table words (o.first + r) w)).0 e).0
 
 module _ {text table words : List ℕ} {o : Operation} {w : List ℕ} {r : ℕ} where
   pub number-here : r < o.count → spelt_at text table words (o.first + r) w ≡ true → NumberOf text table words o w r
@@ -152,25 +159,24 @@ readable {text} {table} {words} {n} {k} {h} o c l r =
     named-inside : (p : Param) {i : ℕ} → ParameterAt text table words n i p → {j : ℕ} → i ≡ j → parameter_word words j 0 + 2 < n
     named-inside p a e = rw e at a.inside
 
-module _ {words : List ℕ} {k : ℕ} {o : Operation} (c : Copied words k o) where
+module _ {words : List ℕ} {k : ℕ} {o : Operation} (c : o ≡ operation_in words k) where
   pub recorded : {n : ℕ} → Readable words n k → ParamsRecorded words o
   recorded r =
       let a = r.few in
       let b = r.ordered in
       let d = r.room in
-      record { few = omega (arith, c.count); room = omega (arith, c.first, c.count) }
+      rw c (record { few = omega arith; room = omega arith })
 
   pub names-below : {n : ℕ} → Readable words n k → NamesBelow words n o
   names-below r =
       let b = r.ordered in
-      record { below = λ i l. r.names (o.first + i) (omega (arith, c.first)) (omega (arith, c.first, c.count)) }
+      rw c (record { below = λ i l. r.names (operation_word words k 1 + i) (omega arith) (omega (arith, l)) })
 
   pub declares : {text table : List ℕ} {n : ℕ} {h : Header} → OperationAt text table words n k h → first (header_faults h) ≡ nothing
       → Declares text table words n o h.params
-  declares {h = h} a f =
-      record {
-        params = rw c.first a.params;
-        count = omega (arith, c.count, a.ends);
-        few = few-params h f;
-        apart = apart-params h f;
-      }
+  declares {h = h} a f = rw c (record { params = a.params; count = omega (arith, a.ends); few = few-params h f; apart = apart-params h f })
+
+-- the same of the callee that is made of it
+pub takes : {ts : Tokens} {ws : List ℕ} {k : ℕ} {c : Callee} {h : Header} → Called ts ws k c → OperationAt ts.text.now ts.table.now ws ts.count k h
+    → first (header_faults h) ≡ nothing → Takes c h.params
+takes g a f = rw (g.list, g.words) (declares g.operation a f)

@@ -8,8 +8,8 @@ use lib.Dec.{leb}
 use borrow.Author.Tests.{leb-true, leb-false}
 use lib.ListN.{length}
 use Rattle.lexis.specs.Lexer.{Token}
-use Rattle.syntax.specs.declared.Parsed.{Parsed}
-use Rattle.syntax.specs.declared.Parsed.TheVariants.{Done, Fault}
+use Rattle.syntax.specs.Read.{Parsed}
+use Rattle.syntax.specs.Read.Parsed.{Done, Fault}
 use Rattle.syntax.specs.Tree.{Value}
 use Rattle.syntax.specs.Grammar.{Leaves, Spells}
 use Rattle.syntax.specs.Grammar.IsLiteral.{no_sign, a-sign}

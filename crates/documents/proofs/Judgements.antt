@@ -19,8 +19,7 @@ use Rattle.syntax.proofs.Row.{Shrinks, left-ok, row-shrinks}
 use Rattle.syntax.proofs.Tails.{Tails, row-tails, argument-tails}
 use Rattle.syntax.proofs.Shrinks.{argument-shrinks}
 use Rattle.syntax.proofs.Table.{toks-length}
-use Rattle.lists.specs.declared.directory.Lookup.{Lookup}
-use Rattle.lists.specs.declared.directory.Lookup.TheVariants.{At, Missing}
+use Rattle.std.proofs.Common.{Option as Maybe, Some, None}
 use Rattle.lists.specs.Fault.{Fault, fault, faults, starts, unless, earlier, first}
 use Rattle.lists.specs.Best.{meant}
 use Rattle.lists.specs.Masks.{is_required}
@@ -34,6 +33,11 @@ use Rattle.lists.proofs.First.{first-append, first-none}
 use Rattle.lists.proofs.Parts.{First, first_of}
 use Rattle.lists.proofs.Faultless.{neither, own-clean, none-beyond, no-faults}
 use Rattle.lists.proofs.ListFaults.{list-parts}
+use mathlib.Core.Logic.{∥∥₁_elim}
+use Rattle.std.specs.Prelude.{Some}
+use Rattle.std.proofs.Props.{props}
+use Rattle.index.specs.Indexed.{Walkable}
+use Rattle.lists.specs.Headers.{Numbered}
 use Rattle.documents.specs.declared.arguments.Tally.{Tally}
 use Rattle.documents.specs.declared.judging.Judged.{Judged}
 use Rattle.documents.specs.Binding.{lacked, leading}
@@ -135,8 +139,8 @@ few-operations hs h =
     omega (arith, n, length-map hs (λ (g : Header). g.keyword.start))
 
 -- an undeclared operation
-pub judges-unknown : (hs : List Header) (c : Call) {text table : List ℕ} {n equal : ℕ} {r : Judged} (t : Token) {o : Lookup}
-    → t ≡ c.op → o ≡ found hs t → o ≡ Missing → meant r.best ≡ some (fault 15 t.start)
+pub judges-unknown : (hs : List Header) (c : Call) {text table : List ℕ} {n equal : ℕ} {r : Judged} (t : Token) {o : Maybe ℕ}
+    → t ≡ c.op → o ≡ found hs t → o ≡ None → meant r.best ≡ some (fault 15 t.start)
     → ClosesAt text table n (equal + 3) r.close → Judges hs c text table n equal r
 judges-unknown hs c t e f g m k =
     let u = found-missing hs c.op (f ∙ ap (found hs) e) g in
@@ -148,7 +152,7 @@ judges-unknown hs c t e f g m k =
 
 module _ {text table index words : List ℕ} {n : ℕ} where
   -- the operation that is found, in the directory of the headers hs
-  module _ {hs : List Header} (d : Directs text table index words n hs) (t : Token) {o : Lookup} {k : ℕ} (e : o ≡ found hs t) (q : o ≡ At k) where
+  module _ {hs : List Header} (d : Directs text table index words n hs) (t : Token) {o : Maybe ℕ} {k : ℕ} (e : o ≡ found hs t) (q : o ≡ Some k) where
     pub found-operation : OperationOf text table words n k hs t
     found-operation =
         let s = found_some hs t e q in
@@ -161,22 +165,30 @@ module _ {text table index words : List ℕ} {n : ℕ} where
     found_below : k < length hs
     found_below = let s = found_some hs t e q in let l = index_below hs t s.0 in omega (arith, s.1, l)
 
-  pub found-readable : (d : Directed text table index words n) (t : Token) {o : Lookup} {k : ℕ} → o ≡ found d.headers t → o ≡ At k → Readable words n k
+  pub found-readable : (d : Directed text table index words n) (t : Token) {o : Maybe ℕ} {k : ℕ} → o ≡ found d.headers t → o ≡ Some k → Readable words n k
   found-readable d t {k = k} e q =
       let f = found-operation d.directs t e q in
       let l = found_below d.directs t e q in
       readable f.stands (found-clean d.directs t e q) (omega (arith, l, few-operations d.headers d.directs.clean))
       (omega (arith, d.roomy.room, f.stands.tokens))
 
+  -- whatever headers the directory holds
+  pub directed-walkable : ∥ Directed text table index words n ∥₁ → Walkable index n n
+  directed-walkable t = ∥∥₁_elim t (Prim.hlevel props) (λ d. d.walkable)
+
+  pub found-within : ∥ Directed text table index words n ∥₁ → (t : Token) {o : Maybe ℕ} {k : ℕ}
+      → ((hs : List Header) → Numbered text table index n (length hs) (map (λ (h : Header). h.name) hs) → o ≡ found hs t) → o ≡ Some k → Readable words n k
+  found-within d t f q = ∥∥₁_elim d (Prim.hlevel props) (λ e. found-readable e t (f e.headers e.directs.names) q)
+
   -- a declared operation
   pub judges-known : {hs : List Header} (d : Directs text table index words n hs) (c : Call) {dtext dtable : List ℕ} {dn at equal : ℕ} {r : Judged}
-      (t : Token) {o : Lookup} {k : ℕ} → t ≡ c.op → (e : o ≡ found hs t) (q : o ≡ At k) → r.op ≡ k
+      (t : Token) {o : Maybe ℕ} {k : ℕ} → t ≡ c.op → (e : o ≡ found hs t) (q : o ≡ Some k) → r.op ≡ Some k
       → Says dtext dtable dn at equal (found-operation d t e q).head r → CallWith dtext dtable dn at equal c → Judges hs c dtext dtable dn equal r
   judges-known {hs} d c t w e q p s v =
       let f = found-operation d t e q in
       let i = found_some hs t e q in
       record {
         found = s.faults c v ∙ sym (known hs c f.head (ap (find hs) (sym w) ∙ f.is));
-        op = λ h z. p ∙ i.1 ∙ ap (index_of hs) w;
+        op = λ h z. p ∙ ap Some (i.1 ∙ ap (index_of hs) w);
         closes = s.closes;
       }

@@ -41,3 +41,4 @@ pub mod CallUsage
 pub mod Judgements
 pub mod BothStages
 pub mod Checks
+pub mod RefusalNumbers

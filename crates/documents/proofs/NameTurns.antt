@@ -1,11 +1,12 @@
 -- One name of a walk that keeps the earliest fault of a rule and counts: a token that is no name, and one that is. Then the index of names with one
 -- name more. Relies on `Entries` for the numbers of names.
-use Prim.Native.Nat.{ℕ, zero, suc, ◌+◌, ◌<◌}
+use Prim.Native.Nat.{ℕ, zero, suc, ◌+◌, ◌-◌, ◌<◌, ◌≤◌}
 use mathlib.Core.Path.{◌≡◌, refl, sym, ap, ap₂, subst, ◌∙◌}
-use mathlib.Core.Bool.{Bool, true, false, cond, not}
+use mathlib.Core.Bool.{Bool, true, false, cond, not, beq}
 use mathlib.Core.List.{List, [], ◌∷◌, ◌++◌, append_assoc, append-nil}
 use mathlib.Core.Option.{Option, some}
 use mathlib.Core.Option.{none as nothing}
+use Rattle.std.specs.Prelude.{Option as Maybe, Some, None, IfSome, is_some, unwrap_or}
 use native.Mathlib.Omega.{arith}
 use lib.Dec.{eqb, ltb}
 use lib.ListN.{length, length-append}
@@ -29,7 +30,7 @@ use Rattle.documents.specs.Code as Code
 use Rattle.documents.specs.Wiring.{strangers}
 use Rattle.documents.specs.Walks.{listing, misfeeds, assigning, consuming, coded, Turn}
 use Rattle.documents.specs.Naming.{Entry, numbered, entry_number, input_word, headed, assigners, Naming}
-use Rattle.documents.specs.Records.{wired, wire_stored, wires_stored}
+use Rattle.documents.specs.Records.{wired, earlier_call, wire_stored, wires_stored}
 use Rattle.documents.specs.declared.wiring.Tally.{Tally}
 use Rattle.documents.proofs.Entries.{number-last, numbered-append, header-listed, header-input, assigned-before, unwired-is, unassigned-is}
 
@@ -227,6 +228,37 @@ module _ (text table index entered after : List ℕ) (i p : ℕ) (tally r : Tall
         (numbered_more (assigners ds) (suc k) ss (u ∷ []) ∙ ap (λ (l : List Token). assigners ds ++ numbered (suc k) (ss ++ l)) (sym here))
         (subst (λ (y : ℕ). Naming text table after (i + 1) es (made ++ numbered y (u ∷ []))) number
         (assigned-more text table index entered i p enters es made named x after room kept)))
+
+-- an identifier is assigned by the wrong operation where the two tests differ
+pub feeds-differ : (external input : Bool) → misfeeds external input ≡ not (beq external input)
+feeds-differ true true = refl
+feeds-differ true false = refl
+feeds-differ false true = refl
+feeds-differ false false = refl
+
+-- the call of a use, and whether there is none
+pub wired-or : (a k : ℕ) → unwrap_or (earlier_call a k) 0 ≡ wired a k
+wired-or a k = go (eqb a 0) (ltb k a)
+  where
+    go : (b c : Bool) → unwrap_or (cond b None (cond c None (Some (a - 1)))) 0 ≡ cond b 0 (cond c 0 (a - 1))
+    go true c = refl
+    go false true = refl
+    go false false = refl
+
+pub call-below : (o : Maybe ℕ) {k : ℕ} → IfSome o (λ c. c < k) → unwrap_or o 0 ≤ k
+call-below None h = omega arith
+call-below (Some c) h = omega (arith, h)
+
+pub unwired-none : (a k : ℕ) {o : Maybe ℕ} (r : Bool) → o ≡ earlier_call a k → is_some o ≡ not r → r ≡ cond (eqb a 0) (eqb a 0) (ltb k a)
+unwired-none a k r e h = go (eqb a 0) (ltb k a) r (sym (ap is_some e) ∙ h)
+  where
+    go : (b c r : Bool) → is_some (cond b None (cond c None (Some (a - 1)))) ≡ not r → r ≡ cond b b c
+    go true c true h = refl
+    go true c false h = h
+    go false true true h = refl
+    go false true false h = h
+    go false false true h = h
+    go false false false h = refl
 
 -- no use, no wire
 pub no-wires : (made : List Entry) (k : ℕ) (records : List ℕ) (u : ℕ) {xs : List Token} → xs ≡ [] → records ≡ wires_stored made k records u xs

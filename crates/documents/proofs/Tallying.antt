@@ -14,18 +14,21 @@ use Rattle.syntax.specs.Tree.{Value, Param, Arg}
 use Rattle.syntax.specs.Parser.{rest, plain, commas, row, argument}
 use Rattle.syntax.specs.Parser.Parse.{ok}
 use Rattle.syntax.specs.Table.{toks}
+use Rattle.syntax.specs.Tokens.{from}
+use Rattle.syntax.specs.declared.tokens.Tokens.{Tokens}
 use Rattle.syntax.specs.Inner.{lookahead}
 use Rattle.syntax.proofs.Table.{toks-rest}
 use Rattle.syntax.proofs.Shrinks.{argument-shrinks}
 use Rattle.lists.specs.declared.best.Best.{Best}
 use Rattle.lists.specs.Fault.{Fault, earlier, first}
-use Rattle.lists.specs.Best.{meant}
+use Rattle.lists.specs.Best.{clean, meant}
 use Rattle.lists.specs.Masks.{mask_of}
-use Rattle.documents.specs.declared.operation.Operation.{Operation}
+use Rattle.documents.specs.declared.callee.Callee.{Callee}
 use Rattle.documents.specs.declared.arguments.Tally.{Tally}
 use Rattle.documents.specs.Binding.{leading, misfit}
 use Rattle.documents.specs.Arguments.{bound, leads}
-use Rattle.documents.specs.Tallies.{Declares, Turned, Binds, Tallies, Grown, TalliesTo, Onward, OfOne, OfAll}
+use Rattle.documents.specs.Tallies.{Turned, Binds, Tallies, Grown, TalliesTo, Onward}
+use Rattle.documents.specs.Callees.{Takes, OfOne, OfAll}
 use Rattle.documents.proofs.Slots.{bound-length, bound-none}
 use Rattle.documents.proofs.Turns.{passed_none}
 use Rattle.documents.proofs.Items.{token-there}
@@ -77,15 +80,15 @@ positive (suc n) h = omega arith
 
 -- ---- all arguments
 
-tally-none : (ps : List Param) (at guess : ℕ) {r : Best} → r ≡ record { at = 0; code = 0; detail = 0 }
+tally-none : (ps : List Param) (at guess : ℕ) {r : Best} → r ≡ clean
     → Tallies ps [] (record { best = r; bound = 0; leads = true; index = 0; guess = guess; at = at })
 unfolding meant leads
 tally-none ps at guess e = record { faulted = ap meant e ∙ sym (passed_none ps); flags = sym (bound-none ps); unnamed = refl; count = refl }
 
-module _ (dtext dtable : List ℕ) (dn : ℕ) (ltext ltable words : List ℕ) (ln : ℕ) (o : Operation) (args : ℕ) where
+module _ (doc : Tokens) (callee : Callee) (args : ℕ) where
   -- the arguments from place i on
   abbrev Row : ℕ → List Arg → List Token → Type 0
-  Row i xs us = row plain (commas right_round) (argument max_brackets) (toks dtext dtable dn i) ≡ ok xs us
+  Row i xs us = row plain (commas right_round) (argument max_brackets) (from doc i) ≡ ok xs us
 
   -- s is the tally of those passed; those left are read from its place on
   pub record Summed (ps : List Param) (xs : List Arg) (us : List Token) (s : Tally) : Type 0 where
@@ -96,27 +99,27 @@ module _ (dtext dtable : List ℕ) (dn : ℕ) (ltext ltable words : List ℕ) (l
     pub tally : Tallies ps passed s
 
   abbrev pub Sums : Tally → Type 0
-  Sums s = (ps : List Param) (xs : List Arg) (us : List Token) → Declares ltext ltable words ln o ps → Row args xs us → Summed ps xs us s
+  Sums s = (ps : List Param) (xs : List Arg) (us : List Token) → Takes callee ps → Row args xs us → Summed ps xs us s
 
-  pub sums_none : (guess : ℕ) {r : Best} → r ≡ record { at = 0; code = 0; detail = 0 }
+  pub sums_none : (guess : ℕ) {r : Best} → r ≡ clean
       → Sums (record { best = r; bound = 0; leads = true; index = 0; guess = guess; at = args })
   sums_none guess e ps xs us d h = record { passed = []; left = xs; split = refl; reads = h; tally = tally-none ps args guess e }
 
   module _ (s r : Tally) (walk : Sums s)
-      (step : OfOne dtext dtable dn ltext ltable words ln o s r) {sees : ℕ} (looks : sees ≡ lookahead (toks dtext dtable dn r.at)) where
+      (step : OfOne doc callee s r) {sees : ℕ} (looks : sees ≡ lookahead (from doc r.at)) where
     -- the arguments end
-    pub sums-ended : (sees ≡ comma → ⊥) → OfAll dtext dtable dn args ltext ltable words ln o r
+    pub sums-ended : (sees ≡ comma → ⊥) → OfAll doc callee args r
     sums-ended stop ps xs us d h =
         let w = walk ps xs us d h in
-        go w refl (row_ok right_round (argument max_brackets) (argument-shrinks max_brackets) (toks dtext dtable dn s.at) w.reads)
+        go w refl (row_ok right_round (argument max_brackets) (argument-shrinks max_brackets) (from doc s.at) w.reads)
       where
-        go : (w : Summed ps xs us s) {ys : List Arg} → w.left ≡ ys → Rowed right_round (argument max_brackets) (toks dtext dtable dn s.at) us ys
-            → Tallies ps xs r × (us ≡ toks dtext dtable dn (r.at + 1)) × (r.at < dn)
+        go : (w : Summed ps xs us s) {ys : List Arg} → w.left ≡ ys → Rowed right_round (argument max_brackets) (from doc s.at) us ys
+            → Tallies ps xs r × (us ≡ from doc (r.at + 1)) × (r.at < doc.count)
         go w e (row_last {a = x} {c = c} k q) =
             let t = step ps w.passed x (c ∷ us) d k w.tally in (
               rw (w.split ∙ ap (λ (zs : List Arg). w.passed ++ zs) e) t.tally,
-              ap rest t.after ∙ toks-rest dtext dtable dn r.at,
-              token-there dtext dtable dn r.at (sym t.after),
+              ap rest t.after ∙ toks-rest doc.text.now doc.table.now doc.count r.at,
+              token-there doc.text.now doc.table.now doc.count r.at (sym t.after),
             )
         go w e (next {a = x} {c = c} {us = vs} k q m) =
             let t = step ps w.passed x (c ∷ vs) d k w.tally in
@@ -127,9 +130,9 @@ module _ (dtext dtable : List ℕ) (dn : ℕ) (ltext ltable words : List ℕ) (l
         → Sums (record { best = r.best; bound = r.bound; leads = r.leads; index = r.index; guess = r.guess; at = r.at + 1 })
     sums_on goes ps xs us d h =
         let w = walk ps xs us d h in
-        go w refl (row_ok right_round (argument max_brackets) (argument-shrinks max_brackets) (toks dtext dtable dn s.at) w.reads)
+        go w refl (row_ok right_round (argument max_brackets) (argument-shrinks max_brackets) (from doc s.at) w.reads)
       where
-        go : (w : Summed ps xs us s) {ys : List Arg} → w.left ≡ ys → Rowed right_round (argument max_brackets) (toks dtext dtable dn s.at) us ys
+        go : (w : Summed ps xs us s) {ys : List Arg} → w.left ≡ ys → Rowed right_round (argument max_brackets) (from doc s.at) us ys
             → Summed ps xs us (record { best = r.best; bound = r.bound; leads = r.leads; index = r.index; guess = r.guess; at = r.at + 1 })
         go w e (row_last {a = x} {c = c} k q) =
             let t = step ps w.passed x (c ∷ us) d k w.tally in
@@ -137,7 +140,7 @@ module _ (dtext dtable : List ℕ) (dn : ℕ) (ltext ltable words : List ℕ) (l
             absurd (omega arith)
         go w e (next {a = x} {c = c} {us = vs} {xs = ys} k q m) =
             let t = step ps w.passed x (c ∷ vs) d k w.tally in
-            let v : vs ≡ toks dtext dtable dn (r.at + 1) = ap rest t.after ∙ toks-rest dtext dtable dn r.at in
+            let v : vs ≡ from doc (r.at + 1) = ap rest t.after ∙ toks-rest doc.text.now doc.table.now doc.count r.at in
             record {
               passed = w.passed ++ (x ∷ []);
               left = ys;

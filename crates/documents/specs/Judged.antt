@@ -1,5 +1,5 @@
 -- What only the contracts of what a list says to a call cite: the directory that is lent, where a call stands, and what is answered.
-use Rattle.std.specs.Prelude.{◌≡◌, ℕ, ◌+◌, ◌*◌, ◌<◌, ◌≤◌, List, ◌++◌, map, length}
+use Rattle.std.specs.Prelude.{◌≡◌, ℕ, ◌+◌, ◌*◌, ◌<◌, ◌≤◌, List, ◌++◌, map, length, Some}
 use Rattle.std.proofs.Math.Option.{some, none as nothing}
 use Rattle.lexis.specs.Sizes.{max_brackets, max_operations, max_parameters}
 use Rattle.lexis.specs.Lexer.{Token}
@@ -12,10 +12,9 @@ use Rattle.lists.specs.Fault.{first}
 use Rattle.lists.specs.Best.{meant}
 use Rattle.lists.specs.ListRules.{list_faults}
 use Rattle.lists.specs.Found.{find, index_of}
-use Rattle.lists.specs.Lists.{header_faults}
 use Rattle.lists.specs.Headers.{Roomy, Numbered}
 use Rattle.index.specs.Indexed.{Walkable}
-use Rattle.lists.specs.Directory.{operation_word, parameter_word, first_parameter, parameter_words, OperationAt, OperationsAt}
+use Rattle.lists.specs.Directory.{operation_word, parameter_word, first_parameter, parameter_words, OperationsAt}
 use Rattle.documents.specs.declared.judging.Judged.{Judged}
 use Rattle.documents.specs.DocumentRules.{bound_at, left_faults}
 use Rattle.documents.specs.Operations.{operation_faults}
@@ -66,17 +65,5 @@ pub record Says (text table : List ℕ) (n at equal : ℕ) (h : Header) (r : Jud
 -- declared, and where its arguments close
 pub record Judges (hs : List Header) (c : Call) (text table : List ℕ) (n equal : ℕ) (r : Judged) : Type 0 where
   pub found : meant r.best ≡ first (operation_faults hs c)
-  pub op : (h : Header) → find hs c.op ≡ some h → r.op ≡ index_of hs c.op
+  pub op : (h : Header) → find hs c.op ≡ some h → r.op ≡ Some (index_of hs c.op)
   pub closes : ClosesAt text table n (equal + 3) r.close
-
--- ---- what the code promises, for whatever call stands at place `at`
-
--- by operation k of the directory, whatever header it is
-abbrev pub OfOperation : List ℕ → List ℕ → List ℕ → ℕ → ℕ → List ℕ → List ℕ → ℕ → ℕ → ℕ → Judged → Type 0
-OfOperation ltext ltable words ln k dtext dtable dn at equal r =
-    (h : Header) → OperationAt ltext ltable words ln k h → first (header_faults h) ≡ nothing → Says dtext dtable dn at equal h r
-
--- by the directory, whatever headers it holds
-abbrev pub OfCall : List ℕ → List ℕ → List ℕ → List ℕ → ℕ → List ℕ → List ℕ → ℕ → ℕ → ℕ → Judged → Type 0
-OfCall ltext ltable index words ln dtext dtable dn at equal r =
-    (hs : List Header) (c : Call) → Directs ltext ltable index words ln hs → CallWith dtext dtable dn at equal c → Judges hs c dtext dtable dn equal r

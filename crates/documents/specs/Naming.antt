@@ -5,6 +5,8 @@ use Rattle.lexis.specs.Lexer.{Token}
 use Rattle.syntax.specs.Tree.{Call}
 use Rattle.index.specs.Mapped.{Mapped, both, kept}
 use Rattle.lists.specs.Names.{assigned}
+use Rattle.documents.specs.declared.wiring.Listed.{Listed}
+use Rattle.documents.specs.declared.wiring.Listed.TheVariants.{Input, Output}
 
 -- ---- names with a number each
 
@@ -28,6 +30,11 @@ input_word = 1
 
 abbrev pub output_word : ℕ
 output_word = 2
+
+-- the number of what the header has a name as
+abbrev pub listed_number : Listed → ℕ
+listed_number Input = input_word
+listed_number Output = output_word
 
 -- those of the header
 abbrev pub headed : List Token → List Token → List Entry

@@ -1,5 +1,5 @@
 -- The records of calls and wires as the walk over the calls keeps them, in one slice: those of calls in front, those of wires behind.
-use Rattle.std.specs.Prelude.{ℕ, ◌+◌, ◌-◌, ◌*◌, ◌<◌, ◌≤◌, ◌≡◌, cond, eqb, ltb, length, get_or}
+use Rattle.std.specs.Prelude.{ℕ, ◌+◌, ◌-◌, ◌*◌, ◌<◌, ◌≤◌, ◌≡◌, cond, eqb, ltb, length, get_or, Option, Some, None}
 use mathlib.Core.List.{List, [], ◌∷◌, ◌++◌, flat_map}
 use Rattle.std.proofs.lemmas.List.Edits.{sets}
 use Rattle.lexis.specs.Sizes.{max_calls, max_uses, call_words, wire_words}
@@ -42,6 +42,10 @@ wire_stored records u xs = cond (ltb u max_uses) (sets records (first_wire + u *
 -- the index of the call that assigns an identifier and is counted a from 1; 0 where it is none of k calls
 abbrev pub wired : ℕ → ℕ → ℕ
 wired a k = cond (eqb a 0) 0 (cond (ltb k a) 0 (a - 1))
+
+-- the same where there may be none
+abbrev pub earlier_call : ℕ → ℕ → Option ℕ
+earlier_call a k = cond (eqb a 0) None (cond (ltb k a) None (Some (a - 1)))
 
 -- the words of a use in a call that k calls come before
 abbrev pub use_words : List Entry → ℕ → Token → List ℕ

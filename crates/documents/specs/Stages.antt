@@ -1,6 +1,7 @@
 -- What the stages of both texts come to, and what those of a document leave in its work area: a table in front.
-use Rattle.std.specs.Prelude.{ℕ, ◌≤◌, ◌≡◌, List, []}
+use Rattle.std.specs.Prelude.{ℕ, ◌≤◌, ◌≡◌, List, [], Result, Ok, Err}
 use Rattle.lexis.specs.Sizes.{max_tokens}
+use Rattle.lexis.specs.declared.Answer.{Answer}
 use Rattle.lexis.specs.Lexer.{accepted, lex}
 use Rattle.syntax.specs.Tree.{Header, Document}
 use Rattle.syntax.specs.Parser.{parse_document}
@@ -13,8 +14,6 @@ use Rattle.documents.specs.DocumentRules.{document_faults}
 use Rattle.documents.specs.Answer.{document_stages, Checked, both_stages}
 use Rattle.documents.specs.Records.{Kept}
 use Rattle.documents.specs.declared.stages.Sizes.{Sizes}
-use Rattle.documents.specs.declared.stages.Staged.{Staged}
-use Rattle.documents.specs.declared.stages.Staged.TheVariants as S
 
 -- ---- a document under a list
 
@@ -49,9 +48,9 @@ pub record BothKept (list doc work₁ work₂ index words records : List ℕ) (s
   pub kept : Kept records passed.first.headers passed.second.document s.calls s.uses
 
 -- what the stages come to
-abbrev pub BothDone : List ℕ → List ℕ → List ℕ → List ℕ → List ℕ → List ℕ → List ℕ → Staged → Type 0
-BothDone list doc work₁ work₂ index words records (S.Passed s) = BothKept list doc work₁ work₂ index words records s
-BothDone list doc work₁ work₂ index words records (S.Stopped r) = both_stages list doc ≡ stop r
+abbrev pub BothDone : List ℕ → List ℕ → List ℕ → List ℕ → List ℕ → List ℕ → List ℕ → Result Sizes Answer → Type 0
+BothDone list doc work₁ work₂ index words records (Ok s) = BothKept list doc work₁ work₂ index words records s
+BothDone list doc work₁ work₂ index words records (Err r) = both_stages list doc ≡ stop r
 
 -- the same with nothing left but the records
 pub record RecordsKept (list doc records : List ℕ) (s : Sizes) : Type 0 where
@@ -59,6 +58,6 @@ pub record RecordsKept (list doc records : List ℕ) (s : Sizes) : Type 0 where
   pub stages : both_stages list doc ≡ pass trees
   pub kept : Kept records trees.headers trees.document s.calls s.uses
 
-abbrev pub RecordsDone : List ℕ → List ℕ → List ℕ → Staged → Type 0
-RecordsDone list doc records (S.Passed s) = RecordsKept list doc records s
-RecordsDone list doc records (S.Stopped r) = both_stages list doc ≡ stop r
+abbrev pub RecordsDone : List ℕ → List ℕ → List ℕ → Result Sizes Answer → Type 0
+RecordsDone list doc records (Ok s) = RecordsKept list doc records s
+RecordsDone list doc records (Err r) = both_stages list doc ≡ stop r

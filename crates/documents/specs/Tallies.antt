@@ -1,25 +1,23 @@
 -- What only the contracts of the code that binds arguments cite: the operation of a call as the directory gives it, a parameter sought by name, what an
 -- argument is for, and what the arguments before a place amount to.
-use Rattle.std.specs.Prelude.{◌≡◌, ℕ, zero, suc, ◌+◌, ◌-◌, ◌*◌, ◌<◌, ◌≤◌, min, Bool, true, false, ◌&&◌, List, [], ◌∷◌, ◌++◌, ltb, length, set}
+use Rattle.std.specs.Prelude.{◌≡◌, ℕ, zero, suc, ◌+◌, ◌-◌, ◌*◌, ◌<◌, ◌≤◌, min, Bool, true, false, ◌&&◌, List, [], ◌∷◌, ◌++◌, ltb, length, set, Result, Ok, Err, IfOk}
 use Rattle.std.proofs.Math.Option.{Option, some}
 use Rattle.spellings.specs.Comparison.{same_bytes}
+use Rattle.lexis.specs.Refusal.{refusal_number}
+use Rattle.lexis.specs.declared.refusal.Refusal.{Refusal}
 use Rattle.lexis.specs.Sizes.{max_brackets, max_parameters}
 use Rattle.lexis.specs.Lexer.{Token}
-use Rattle.lexis.specs.Symbol.{right_round}
 use Rattle.syntax.specs.Tree.{Value, Param, Arg}
-use Rattle.syntax.specs.Tree.Arg.{positional, named}
 use Rattle.syntax.specs.Grammar.{both}
-use Rattle.syntax.specs.Parser.{plain, commas, row, value, argument}
+use Rattle.syntax.specs.Parser.{value}
 use Rattle.syntax.specs.Parser.Parse.{ok}
 use Rattle.syntax.specs.Table.{token_at, toks}
 use Rattle.lists.specs.Fault.{Fault, fault, earlier, first}
 use Rattle.lists.specs.Best.{meant}
-use Rattle.lists.specs.Names.{repeats, start_of}
-use Rattle.lists.specs.Reading.{fits}
-use Rattle.lists.specs.Fitting.{Fitted}
+use Rattle.lists.specs.Names.{repeats}
 use Rattle.lists.specs.ListRules.{param_names}
 use Rattle.lists.specs.Masks.{mask_of}
-use Rattle.lists.specs.Directory.{operation_word, parameter_word, first_parameter, parameter_words, ParameterAt, ParametersAt}
+use Rattle.lists.specs.Directory.{operation_word, parameter_word, first_parameter, parameter_words, ParametersAt}
 use Rattle.documents.specs.declared.operation.Operation.{Operation}
 use Rattle.documents.specs.declared.arguments.Tally.{Tally}
 use Rattle.documents.specs.declared.arguments.Aim.{Aim}
@@ -28,13 +26,15 @@ use Rattle.documents.specs.Arguments.{bound, leads, tally_faults}
 
 -- ---- the operation of a call
 
--- o is read from record k of the directory
-pub record Copied (words : List ℕ) (k : ℕ) (o : Operation) : Type 0 where
-  pub first : o.first ≡ operation_word words k 1
-  pub count : o.count ≡ operation_word words k 2 - operation_word words k 1
-  pub required : o.required ≡ operation_word words k 3
-  pub results : o.results ≡ operation_word words k 4
-  pub code : o.code ≡ operation_word words k 5
+-- that of record k of the directory
+abbrev pub operation_in : List ℕ → ℕ → Operation
+operation_in words k = record {
+  first = operation_word words k 1;
+  count = operation_word words k 2 - operation_word words k 1;
+  required = operation_word words k 3;
+  results = operation_word words k 4;
+  code = operation_word words k 5;
+}
 
 -- its parameters have their records in the directory, and are no more than may be
 pub record ParamsRecorded (words : List ℕ) (o : Operation) : Type 0 where
@@ -86,11 +86,15 @@ pub record Binds (ps : List Param) (xs : List Arg) (x : Arg) (v : Value) (i : �
   pub nth : Nth i param ps
   pub turned : Turned ps xs x (first (misfit param.ty (some v))) (set (bound ps xs) i true)
 
--- a is what the argument x, of value v, is for: it is refused with a fault at this place, or it binds
+-- what the argument x, of value v, is for: it binds a parameter, or it is refused with a fault at this place
+abbrev pub Serves : List Param → List Arg → Arg → Value → ℕ → Result ℕ Refusal → Type 0
+Serves ps xs x v place (Ok i) = Binds ps xs x v i
+Serves ps xs x v place (Err r) = Turned ps xs x (some (fault (refusal_number r) place)) (bound ps xs)
+
+-- a is that, and says whether neither it nor an argument before it is named
 pub record Aimed (ps : List Param) (xs : List Arg) (x : Arg) (v : Value) (place : ℕ) (a : Aim) : Type 0 where
   pub unnamed : a.leads ≡ leads (xs ++ (x ∷ []))
-  pub refuses : 0 < a.code → Turned ps xs x (some (fault a.code place)) (bound ps xs)
-  pub binds : a.code ≡ 0 → Binds ps xs x v a.number
+  pub serves : Serves ps xs x v place a.parameter
 
 -- the same of the argument x that stands at place i, with us after it
 pub record AimedAt (text table : List ℕ) (n i : ℕ) (ps : List Param) (xs : List Arg) (x : Arg) (us : List Token) (a : Aim) : Type 0 where
@@ -101,7 +105,7 @@ pub record AimedAt (text table : List ℕ) (n i : ℕ) (ps : List Param) (xs : L
 
 -- whatever stands at place i, what it is for lies in the directory, and its value does not stand before it
 pub record AimInside (o : Operation) (i : ℕ) (a : Aim) : Type 0 where
-  pub number : a.code ≡ 0 → a.number < o.count
+  pub number : IfOk a.parameter (λ k. k < o.count)
   pub value : i ≤ a.value
 
 -- ---- the tally of arguments
@@ -132,51 +136,8 @@ pub record Onward (n i : ℕ) (s r : Tally) : Type 0 where
   pub inside : r.at ≤ n
   pub index : r.index ≡ s.index + 1
 
--- ---- what the code promises, for whatever parameters the operation declares and whatever arguments the tally is of
-
--- a positional argument at the tally's place
-abbrev pub OfPlace : List ℕ → Operation → Tally → Aim → Type 0
-OfPlace words o t r =
-    (text table : List ℕ) (n : ℕ) (ps : List Param) (xs : List Arg) (v : Value) → Declares text table words n o ps → Tallies ps xs t
-    → Aimed ps xs (positional v) v (start_of v) r
-
--- an argument at the tally's place that is named by this token
-abbrev pub OfLabel : Token → List ℕ → List ℕ → List ℕ → ℕ → Operation → Tally → Aim → Type 0
-OfLabel label ltext ltable words ln o t r =
-    (ps : List Param) (xs : List Arg) (v : Value) → Declares ltext ltable words ln o ps → Tallies ps xs t → Aimed ps xs (named label v) v label.start r
-
--- the argument at the tally's place
-abbrev pub OfArgument : List ℕ → List ℕ → ℕ → List ℕ → List ℕ → List ℕ → ℕ → Operation → Tally → Aim → Type 0
-OfArgument dtext dtable dn ltext ltable words ln o t r =
-    (ps : List Param) (xs : List Arg) (x : Arg) (us : List Token) → Declares ltext ltable words ln o ps
-    → argument max_brackets (toks dtext dtable dn t.at) ≡ ok x us → Tallies ps xs t → AimedAt dtext dtable dn t.at ps xs x us r
+-- ---- the value of an argument
 
 -- the place after the value at place v
 abbrev pub EndsAt : List ℕ → List ℕ → ℕ → ℕ → ℕ → Type 0
 EndsAt text table n v r = (x : Value) (us : List Token) → value both max_brackets (toks text table n v) ≡ ok x us → us ≡ toks text table n r
-
--- the value at place v, tested against parameter j of the directory
-abbrev pub FitsParameter : List ℕ → List ℕ → ℕ → ℕ → List ℕ → List ℕ → List ℕ → ℕ → ℕ → ℕ → Type 0
-FitsParameter dtext dtable dn v ltext ltable words ln j r =
-    (p : Param) (x : Value) (us : List Token) → ParameterAt ltext ltable words ln j p → value both max_brackets (toks dtext dtable dn v) ≡ ok x us
-    → Fitted dtext dtable dn (fits x p.ty) us r
-
--- the tally with one argument more that binds
-abbrev pub OfBound : List ℕ → List ℕ → ℕ → List ℕ → List ℕ → List ℕ → ℕ → Operation → Tally → Aim → Tally → Type 0
-OfBound dtext dtable dn ltext ltable words ln o t a r =
-    (ps : List Param) (xs : List Arg) (x : Arg) (v : Value) (us : List Token) → Declares ltext ltable words ln o ps
-    → value both max_brackets (toks dtext dtable dn a.value) ≡ ok v us → Tallies ps xs t → Binds ps xs x v a.number → a.leads ≡ leads (xs ++ (x ∷ []))
-    → TalliesTo dtext dtable dn ps (xs ++ (x ∷ [])) us r
-
--- the tally with one argument more
-abbrev pub OfOne : List ℕ → List ℕ → ℕ → List ℕ → List ℕ → List ℕ → ℕ → Operation → Tally → Tally → Type 0
-OfOne dtext dtable dn ltext ltable words ln o t r =
-    (ps : List Param) (xs : List Arg) (x : Arg) (us : List Token) → Declares ltext ltable words ln o ps
-    → argument max_brackets (toks dtext dtable dn t.at) ≡ ok x us → Tallies ps xs t → TalliesTo dtext dtable dn ps (xs ++ (x ∷ [])) us r
-
--- the tally of all arguments from place i on, which close at its place
-abbrev pub OfAll : List ℕ → List ℕ → ℕ → ℕ → List ℕ → List ℕ → List ℕ → ℕ → Operation → Tally → Type 0
-OfAll dtext dtable dn i ltext ltable words ln o r =
-    (ps : List Param) (xs : List Arg) (us : List Token) → Declares ltext ltable words ln o ps
-    → row plain (commas right_round) (argument max_brackets) (toks dtext dtable dn i) ≡ ok xs us
-    → Tallies ps xs r × (us ≡ toks dtext dtable dn (r.at + 1)) × (r.at < dn)

@@ -1,6 +1,9 @@
 -- Walks over the names of a document, as the contracts of the code's loops cite them: the rules of 12, 13 and 21 to 24 as rules of single
 -- names, and a body call by call.
-use Rattle.std.specs.Prelude.{ℕ, ◌≡◌, Bool, cond, not, eqb, length}
+use Rattle.std.specs.Prelude.{ℕ, ◌≡◌, Bool, cond, not, eqb, length, Option as Maybe, Some, None}
+use Rattle.lexis.specs.Code as Lexis
+use Rattle.lexis.specs.Refusal.{refusal_number}
+use Rattle.lexis.specs.declared.refusal.Refusal.{Refusal}
 use Rattle.std.proofs.Math.Option.{Option, some, none as nothing}
 use mathlib.Core.List.{List, [], ◌∷◌, ◌++◌, flatten}
 use Rattle.lexis.specs.Sizes.{max_calls, max_assigned, max_uses}
@@ -34,6 +37,11 @@ assigning inputs external =
 -- an identifier used: 12 and 22
 abbrev pub consuming : List Token → Rule
 consuming known = both_rules (beyond max_uses) (passing Code.unassigned_use (λ t. not (is_among known t)))
+
+-- the code of a refusal, and that of acceptance where there is none
+abbrev pub code_of : Maybe Refusal → ℕ
+code_of None = Lexis.accepted
+code_of (Some r) = refusal_number r
 
 -- the fault of this code at this place; none where the code is 0
 abbrev pub coded : ℕ → ℕ → Option Fault

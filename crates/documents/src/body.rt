@@ -1,32 +1,28 @@
 // The calls of a body under a list: all rules of a call in one walk, which keeps the records of calls and wires as it goes.
-ghost use Rattle.std.specs.Prelude.{◌≡◌, List, [], ◌+◌, ◌<◌, ◌≤◌, length};
+// The index and the records are parameters and no part of `Source`: lent as one, each call would have to promise that the tokens stay.
+ghost use Rattle.std.specs.Prelude.{◌≡◌, ◌+◌, ◌<◌, ◌≤◌, length};
 ghost use Rattle.spellings.specs.Comparison.{same_bytes};
 ghost use Rattle.lexis.specs.Ascii.{ascii};
-ghost use Rattle.lexis.specs.Sizes.{max_text, max_tokens, max_brackets};
-ghost use Rattle.lexis.specs.Lexer.{Token};
-ghost use Rattle.syntax.specs.Tree.{Header, Call};
-ghost use Rattle.syntax.specs.Parser.{call};
-ghost use Rattle.syntax.specs.Parser.Parse.{ok};
-ghost use Rattle.syntax.specs.Table.{token_at, toks, Holds};
+ghost use Rattle.syntax.specs.Table.{token_at};
+ghost use Rattle.syntax.specs.Tokens.{from};
 ghost use Rattle.index.specs.Indexed.{Walkable};
-ghost use Rattle.lists.specs.Names.{all_assigned};
-ghost use Rattle.documents.specs.Calls.{Calls, CallFrom};
-ghost use Rattle.documents.specs.Naming.{headed, assigners, Naming};
-ghost use Rattle.documents.specs.Judged.{Directs, Directed};
 ghost use Rattle.documents.specs.Records.{records_words};
-ghost use Rattle.documents.specs.Graphs.{LeftSide, Walked, Stepped, Body};
+ghost use Rattle.documents.specs.Sources.{OfLeft, OfStep, OfBody};
 
 use crate::calls::{after_call, find};
+use crate::directory::Directory;
 use crate::graph::Graph;
 use crate::judging::judge;
 use crate::records::record;
+use crate::source::Source;
 use crate::wiring::{Tally, assigned, used};
 use index::token::bytes_at;
 use lexis::limits::Limits;
+use lexis::refusal::Refusal;
 use lexis::symbol::Symbol;
 use lists::best::Best;
-use lists::word::start_at;
 use spellings::same;
+use syntax::tokens::Tokens;
 
 // The first fault of the calls before place `at`, and how many calls, identifiers assigned and identifiers used there are.
 #[derive(Clone, Copy)]
@@ -39,158 +35,112 @@ pub struct Walk {
 }
 
 // Whether the token at place i is spelt `external`.
-fn is_external(text: &[u8], table: &[u32], n: usize, i: usize) -> bool
-    requires { Holds text.now table.now n }
-    ensures { i < n → result ≡ same_bytes (token_at text.now table.now i).bytes (ascii "external") }
+fn is_external(tokens: &Tokens<'_>, i: usize) -> bool
+    ensures { i < tokens.now.count → result ≡ same_bytes (token_at tokens.now.text.now tokens.now.table.now i).bytes (ascii "external") }
 {
-    if n <= i {
+    if tokens.count <= i {
         return false;
     }
-    same(bytes_at(text, table, n, i), b"external")
+    same(bytes_at(tokens, i), b"external")
 }
 
-// Where the token at place i starts; 0 beyond the last.
-fn place_of(text: &[u8], table: &[u32], n: usize, i: usize) -> u32
-    requires holds { Holds text.now table.now n }
-    requires text_len_bound { length text.now ≤ max_text }
+// Where the token at place i starts; 0 beyond the last. A number and no `Option`: it goes into a call's record, which has a word for it.
+fn place_of(source: &Source<'_>, i: usize) -> u32
     ensures upper_bound { result < 65536 }
-    ensures value { i < n → result ≡ (token_at text.now table.now i).start }
+    ensures value { i < source.now.tokens.count → result ≡ (token_at source.now.tokens.text.now source.now.tokens.table.now i).start }
 {
-    if n <= i {
+    if source.tokens.count <= i {
         return 0;
     }
-    start_at(table, i)
+    source.tokens.start_at(i)
 }
 
 // The left side of call k from place `at` up to its `=`, and whether the call is one too many.
 fn left_side(
-    text: &[u8],
-    table: &[u32],
-    n: usize,
+    source: &Source<'_>,
     at: usize,
     equal: usize,
     k: usize,
     index: &mut [u16],
     tally: Tally,
 ) -> Tally
-    requires holds { Holds text.now table.now n }
-    requires at_lt_n { (at < n) × (at ≤ equal) × (equal ≤ n) × (n ≤ max_tokens) × (k ≤ at) × (tally.count ≤ at) }
-    requires walkable { Walkable index.old at n }
+    requires at_lt_n { (at < source.now.tokens.count) × (at ≤ equal) × (equal ≤ source.now.tokens.count) × (k ≤ at) × (tally.count ≤ at) }
+    requires walkable { Walkable index.old at source.now.tokens.count }
     ensures count_le_count { (tally.count ≤ result.count) × (result.count ≤ equal) }
-    ensures walkable_2 { Walkable index.new equal n }
-    ensures left_side { (ins outs : List Token) (ds : List Call) (c : Call) → CallFrom text.now table.now n at equal c → k ≡ length ds
-        → Naming text.now table.now index.old at (headed ins outs) (assigners ds) →
-        tally.count ≡ length (all_assigned ds) → LeftSide text.now table.now index.new equal ins outs ds c tally result }
+    ensures walkable_2 { Walkable index.new equal source.now.tokens.count }
+    ensures left_side { OfLeft source.now index.old index.new at equal k tally result }
 {
-    let external = is_external(text, table, n, equal + 1);
+    let external = is_external(&source.tokens, equal + 1);
     let beyond = Best::fault_if(
         k == Limits::CALLS,
-        lists::code::Code::OVER_SIZE,
-        start_at(table, at),
+        Refusal::OverSize,
+        source.tokens.start_at(at),
     );
     let start = Tally {
         best: tally.best.earlier(beyond),
         count: tally.count,
     };
-    assigned(text, table, n, at, equal, k, external, index, start)
+    assigned(source, at, equal, k, external, index, start)
 }
 
 // One call more.
 fn call_at(
-    ltext: &[u8],
-    ltable: &[u32],
-    ln: usize,
-    lindex: &[u16],
-    words: &[u32],
-    dtext: &[u8],
-    dtable: &[u32],
-    dn: usize,
+    directory: &Directory<'_>,
+    source: &Source<'_>,
     index: &mut [u16],
     records: &mut [u16],
     walk: Walk,
 ) -> Walk
-    requires holds { Holds ltext.now ltable.now ln }
-    requires holds_2 { Holds dtext.now dtable.now dn }
-    requires directed { Directed ltext.now ltable.now lindex.now words.now ln }
-    requires dn_le_max_tokens { (dn ≤ max_tokens) × (length dtext.now ≤ max_text) × (records_words ≤ length records.old) }
-    requires at_lt_dn { (walk.at < dn) × (walk.calls ≤ walk.at) × (walk.assigned ≤ walk.at) × (walk.uses ≤ walk.at) }
-    requires walkable { Walkable index.old walk.at dn }
+    requires records_room { records_words ≤ length records.old }
+    requires at_lt_dn { (walk.at < source.now.tokens.count) × (walk.calls ≤ walk.at) × (walk.assigned ≤ walk.at) × (walk.uses ≤ walk.at) }
+    requires walkable { Walkable index.old walk.at source.now.tokens.count }
     ensures at_lt_at { (walk.at < result.at) × (result.calls ≤ result.at) × (result.assigned ≤ result.at) × (result.uses ≤ result.at) }
-    ensures walkable_2 { (Walkable index.new result.at dn) × (Walkable index.new dn dn)
+    ensures walkable_2 { (Walkable index.new result.at source.now.tokens.count) × (Walkable index.new source.now.tokens.count source.now.tokens.count)
         × (length records.new ≡ length records.old) }
-    ensures stepped { (hs : List Header) (ins outs : List Token) (ds : List Call) (c : Call) (us : List Token) →
-        Directs ltext.now ltable.now lindex.now words.now ln hs →
-        call max_brackets (toks dtext.now dtable.now dn walk.at) ≡ ok c us →
-        Walked dtext.now dtable.now index.old records.old hs ins outs ds walk →
-        Stepped dtext.now dtable.now dn index.new records.new hs ins outs ds c us walk result }
+    ensures stepped { OfStep directory.now source.now index.old index.new records.old records.new walk result }
 {
     let at = walk.at;
     let k = walk.calls;
-    let equal = find(dtext, dtable, dn, at, Symbol::EQUAL);
+    let equal = find(&source.tokens, at, Symbol::EQUAL);
     let best = walk.best;
     let start = Tally {
         best: best,
         count: walk.assigned,
     };
-    let left = left_side(dtext, dtable, dn, at, equal, k, &mut *index, start);
-    let j = judge(
-        ltext, ltable, ln, lindex, words, dtext, dtable, dn, at, equal,
-    );
+    let left = left_side(source, at, equal, k, &mut *index, start);
+    let j = judge(directory, &source.tokens, at, equal);
     let middle = Tally {
         best: left.best.earlier(j.best),
         count: walk.uses,
     };
-    let right = used(
-        dtext,
-        dtable,
-        dn,
-        equal + 3,
-        j.close,
-        k,
-        index,
-        &mut *records,
-        middle,
-    );
+    let right = used(source, equal + 3, j.close, k, index, &mut *records, middle);
     let assigns = left.count - walk.assigned;
     let uses = right.count - walk.uses;
-    let place = place_of(dtext, dtable, dn, equal + 1);
-    record(&mut *records, k, j.op, place, assigns, uses);
+    let place = place_of(source, equal + 1);
+    record(&mut *records, k, j.op.unwrap_or(0), place, assigns, uses);
     let last = right.best;
     Walk {
         best: last,
         calls: k + 1,
         assigned: left.count,
         uses: right.count,
-        at: after_call(dtext, dtable, dn, j.close),
+        at: after_call(&source.tokens, j.close),
     }
 }
 
 // All calls of the body.
 pub fn body(
-    ltext: &[u8],
-    ltable: &[u32],
-    ln: usize,
-    lindex: &[u16],
-    words: &[u32],
-    dtext: &[u8],
-    dtable: &[u32],
-    dn: usize,
+    directory: &Directory<'_>,
+    source: &Source<'_>,
     index: &mut [u16],
     records: &mut [u16],
     graph: Graph,
 ) -> Walk
-    requires holds { Holds ltext.now ltable.now ln }
-    requires holds_2 { Holds dtext.now dtable.now dn }
-    requires directed { Directed ltext.now ltable.now lindex.now words.now ln }
-    requires dn_le_max_tokens { (dn ≤ max_tokens) × (length dtext.now ≤ max_text) × (records_words ≤ length records.old) }
-    requires end_le_dn { graph.end ≤ dn }
-    requires walkable { (Walkable index.old graph.body dn) × (Walkable index.old dn dn) }
-    ensures walkable_2 { Walkable index.new dn dn }
-    ensures body { (hs : List Header) (ins outs : List Token) (cs : List Call) →
-        Directs ltext.now ltable.now lindex.now words.now ln hs →
-        Calls max_brackets (toks dtext.now dtable.now dn graph.body) cs (toks dtext.now dtable.now dn graph.end) →
-        Naming dtext.now dtable.now index.old graph.body (headed ins outs) [] →
-        Body dtext.now dtable.now index.new records.new hs ins outs cs result }
+    requires records_room { records_words ≤ length records.old }
+    requires end_le_dn { graph.end ≤ source.now.tokens.count }
+    requires walkable { (Walkable index.old graph.body source.now.tokens.count) × (Walkable index.old source.now.tokens.count source.now.tokens.count) }
+    ensures walkable_2 { Walkable index.new source.now.tokens.count source.now.tokens.count }
+    ensures body { OfBody directory.now source.now graph index.old index.new records.new result }
 {
     let mut walk = Walk {
         best: Best::none(),
@@ -199,20 +149,9 @@ pub fn body(
         uses: 0,
         at: graph.body,
     };
+    // No `for`: each call says where the next one begins.
     while walk.at < graph.end {
-        walk = call_at(
-            ltext,
-            ltable,
-            ln,
-            lindex,
-            words,
-            dtext,
-            dtable,
-            dn,
-            &mut *index,
-            &mut *records,
-            walk,
-        );
+        walk = call_at(directory, source, &mut *index, &mut *records, walk);
     }
     walk
 }

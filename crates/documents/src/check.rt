@@ -1,7 +1,5 @@
 // The operation `check`: whether a document is well formed under an operation list, and its calls and wires.
 ghost use Rattle.std.specs.Prelude.{◌≡◌, ◌&&◌, ◌≤◌, leb, length};
-ghost use Rattle.lexis.specs.Answer.{answer};
-ghost use Rattle.lexis.specs.Code as C;
 ghost use Rattle.lexis.specs.Sizes.{max_text, max_calls, max_uses, work_words, call_words, wire_words};
 ghost use Rattle.lists.specs.Answer.{work_after};
 ghost use Rattle.documents.specs.Answer.{both_stages, areas_serve, check_room, checked, check_answer, calls_after, wires_after};
@@ -9,9 +7,8 @@ ghost use Rattle.documents.specs.Records.{records_words};
 ghost use Rattle.documents.specs.Checks.{Ended, Tabled};
 
 use crate::records::{Records, copy};
-use crate::stages::{Sizes, Staged, recorded_stages};
+use crate::stages::{Sizes, recorded_stages};
 use lexis::Answer;
-use lexis::code::Code;
 use lexis::limits::Limits;
 use lists::clear;
 
@@ -38,18 +35,6 @@ fn rooms_serve(work1: usize, work2: usize, calls: usize, wires: usize) -> bool
     Limits::wires_serve(wires)
 }
 
-// Code 2 for this text.
-pub fn long_text(text: u32) -> Answer
-    ensures { result ≡ answer C.long_text text max_text 0 }
-{
-    Answer {
-        code: Code::LONG_TEXT,
-        text: text,
-        position: Limits::TEXT as u32,
-        detail: 0,
-    }
-}
-
 // Copies the records of texts that have passed their stages into both tables, and gives the number of calls.
 fn write_tables(sizes: Sizes, records: &[u16], calls: &mut [u32], wires: &mut [u32]) -> Answer
     requires records_words_in_bounds { records_words ≤ length records.now }
@@ -59,12 +44,7 @@ fn write_tables(sizes: Sizes, records: &[u16], calls: &mut [u32], wires: &mut [u
 {
     copy(records, 0, sizes.calls * Records::CALL, calls);
     copy(records, Records::WIRES, sizes.uses * Records::WIRE, wires);
-    Answer {
-        code: Code::ACCEPTED,
-        text: 0,
-        position: 0,
-        detail: sizes.calls as u32,
-    }
+    Answer::accepted(sizes.calls as u32)
 }
 
 // The answer of the stages of both texts, and the tables where they pass. Leaves anything in the work areas.
@@ -84,10 +64,11 @@ fn both_answer(
     ensures work1_len_unchanged { length work1.new ≡ length work1.old }
     ensures work2_len_unchanged { length work2.new ≡ length work2.old }
 {
+    // An array on the stack: no heap, fixed memory.
     let mut records = [0u16; Records::WORDS];
     match recorded_stages(list, doc, &mut *work1, &mut *work2, &mut records) {
-        Staged::Passed(sizes) => write_tables(sizes, &records, calls, wires),
-        Staged::Stopped(r) => r,
+        Ok(sizes) => write_tables(sizes, &records, calls, wires),
+        Err(refused) => refused,
     }
 }
 
@@ -113,18 +94,13 @@ pub fn check(
     ensures work2_after { work2.new ≡ work_after result work2.old }
 {
     if !rooms_serve(work1.len(), work2.len(), calls.len(), wires.len()) {
-        return Answer {
-            code: Code::SHORT_ROOM,
-            text: 0,
-            position: 0,
-            detail: 0,
-        };
+        return Answer::short_room();
     }
     if !Limits::text_fits(list.len()) {
-        return long_text(1);
+        return Answer::long_text(1);
     }
     if !Limits::text_fits(doc.len()) {
-        return long_text(2);
+        return Answer::long_text(2);
     }
     let r = both_answer(list, doc, &mut *work1, &mut *work2, calls, wires);
     clear(work1);

@@ -1,31 +1,23 @@
 // All rules of a document under a list that has passed its own.
-ghost use Rattle.std.specs.Prelude.{◌≡◌, List, [], ◌<◌, ◌≤◌, length};
-ghost use Rattle.spellings.specs.Comparison.{same_bytes};
-ghost use Rattle.lexis.specs.Ascii.{ascii};
-ghost use Rattle.lexis.specs.Sizes.{max_text, max_tokens};
-ghost use Rattle.syntax.specs.Tree.{Header, Document};
-ghost use Rattle.syntax.specs.Parser.{parse_document};
-ghost use Rattle.syntax.specs.Parser.Parse.{ok};
-ghost use Rattle.syntax.specs.Table.{token_at, toks, Holds};
+ghost use Rattle.std.specs.Prelude.{◌≡◌, [], ◌<◌, ◌≤◌, length};
 ghost use Rattle.index.specs.Indexed.{Walkable};
-ghost use Rattle.lists.specs.Fault.{first, fault, unless};
-ghost use Rattle.lists.specs.Best.{meant};
-ghost use Rattle.documents.specs.Code as C;
 ghost use Rattle.documents.specs.Naming.{Naming};
-ghost use Rattle.documents.specs.Judged.{Directs, Directed};
 ghost use Rattle.documents.specs.Records.{records_words};
-ghost use Rattle.documents.specs.Graphs.{HasDocument, Rising, Blank, Headed, Unmade, Rules};
+ghost use Rattle.documents.specs.Graphs.{HasDocument, Rising, Blank, Headed, Unmade};
+ghost use Rattle.documents.specs.Sources.{OfVersion, OfDocument};
 
 use crate::body::body;
-use crate::code::Code;
+use crate::directory::Directory;
 use crate::graph::{Graph, graph_at};
 use crate::header::{listed, unassigned};
-use crate::wiring::{Tally, Word};
+use crate::source::Source;
+use crate::wiring::{Listed, Tally};
 use index::token::bytes_at;
 use lexis::limits::Limits;
+use lexis::refusal::Refusal;
 use lists::best::Best;
-use lists::word::start_at;
 use spellings::same;
+use syntax::tokens::Tokens;
 
 // The first fault of a document, and how many calls and uses it has.
 #[derive(Clone, Copy)]
@@ -36,42 +28,35 @@ pub struct Ruled {
 }
 
 // The version, which stands at place 1, is not spelt `1.0`.
-fn bad_version(text: &[u8], table: &[u32], n: usize) -> Best
-    requires { Holds text.now table.now n }
-    ensures { 1 < n
-        → meant result ≡ first
-        (unless (same_bytes (token_at text.now table.now 1).bytes (ascii "1.0"))
-        (fault C.wrong_version (token_at text.now table.now 1).start)) }
+fn bad_version(tokens: &Tokens<'_>) -> Best
+    ensures { OfVersion tokens.now result }
 {
-    if n <= 1 {
+    if tokens.count <= 1 {
         return Best::none();
     }
-    let right = same(bytes_at(text, table, n, 1), b"1.0");
-    Best::fault_if(!right, Code::WRONG_VERSION, start_at(table, 1))
+    let right = same(bytes_at(tokens, 1), b"1.0");
+    Best::fault_if(!right, Refusal::WrongVersion, tokens.start_at(1))
 }
 
 // The names of the graph's header, which are entered in the index.
-fn header(text: &[u8], table: &[u32], n: usize, graph: Graph, index: &mut [u16], best: Best) -> Best
-    requires holds { Holds text.now table.now n }
+fn header(source: &Source<'_>, graph: Graph, index: &mut [u16], best: Best) -> Best
     requires rising { Rising graph }
-    requires closes_le_n { (graph.closes ≤ n) × (n ≤ max_tokens) }
-    requires walkable { Walkable index.old graph.first n }
-    ensures walkable_2 { Walkable index.new graph.closes n }
-    ensures headed { Naming text.now table.now index.old graph.first [] []
-        → Headed text.now table.now index.new graph best result }
+    requires closes_le_count { graph.closes ≤ source.now.tokens.count }
+    requires walkable { Walkable index.old graph.first source.now.tokens.count }
+    ensures walkable_2 { Walkable index.new graph.closes source.now.tokens.count }
+    ensures headed { Naming source.now.tokens.text.now source.now.tokens.table.now index.old graph.first [] []
+        → Headed source.now.tokens.text.now source.now.tokens.table.now index.new graph best result }
 {
     let start = Tally {
         best: best,
         count: 0,
     };
     let inputs = listed(
-        text,
-        table,
-        n,
+        source,
         graph.first,
         graph.inputs,
         Limits::INPUTS,
-        Word::INPUT,
+        Listed::Input,
         &mut *index,
         start,
     );
@@ -81,13 +66,11 @@ fn header(text: &[u8], table: &[u32], n: usize, graph: Graph, index: &mut [u16],
         count: 0,
     };
     let outputs = listed(
-        text,
-        table,
-        n,
+        source,
         graph.outputs,
         graph.closes,
         Limits::OUTPUTS,
-        Word::OUTPUT,
+        Listed::Output,
         index,
         next,
     );
@@ -95,75 +78,47 @@ fn header(text: &[u8], table: &[u32], n: usize, graph: Graph, index: &mut [u16],
 }
 
 // The names of the header that no call assigns.
-fn unmade(text: &[u8], table: &[u32], n: usize, graph: Graph, index: &[u16], best: Best) -> Best
-    requires holds { Holds text.now table.now n }
-    requires inputs_le_n { (graph.inputs ≤ n) × (graph.closes ≤ n) }
-    requires walkable { Walkable index.now n n }
-    ensures { Unmade text.now table.now index.now graph best result }
+fn unmade(tokens: &Tokens<'_>, graph: Graph, index: &[u16], best: Best) -> Best
+    requires inputs_le_n { (graph.inputs ≤ tokens.now.count) × (graph.closes ≤ tokens.now.count) }
+    requires walkable { Walkable index.now tokens.now.count tokens.now.count }
+    ensures { Unmade tokens.now.text.now tokens.now.table.now index.now graph best result }
 {
     let inputs = unassigned(
-        text,
-        table,
-        n,
+        tokens,
         graph.first,
         graph.inputs,
         index,
-        Code::MISFED,
+        Refusal::Misfed,
         best,
     );
     unassigned(
-        text,
-        table,
-        n,
+        tokens,
         graph.outputs,
         graph.closes,
         index,
-        Code::UNASSIGNED_OUTPUT,
+        Refusal::UnassignedOutput,
         inputs,
     )
 }
 
 // The first fault of a document under a list that has none, and its records. The index is empty before.
 pub fn document_rules(
-    ltext: &[u8],
-    ltable: &[u32],
-    ln: usize,
-    lindex: &[u16],
-    words: &[u32],
-    dtext: &[u8],
-    dtable: &[u32],
-    dn: usize,
+    directory: &Directory<'_>,
+    source: &Source<'_>,
     index: &mut [u16],
     records: &mut [u16],
 ) -> Ruled
-    requires holds { Holds ltext.now ltable.now ln }
-    requires holds_2 { Holds dtext.now dtable.now dn }
-    requires directed { Directed ltext.now ltable.now lindex.now words.now ln }
-    requires has_document { HasDocument dtext.now dtable.now dn }
-    requires dn_le_max_tokens { (dn ≤ max_tokens) × (length dtext.now ≤ max_text) × (records_words ≤ length records.old) }
-    requires blank { Blank index.old dn }
-    ensures { (hs : List Header) (d : Document) →
-        Directs ltext.now ltable.now lindex.now words.now ln hs →
-        parse_document (toks dtext.now dtable.now dn 0) ≡ ok d [] → Rules records.new hs d result }
+    requires has_document { HasDocument source.now.tokens.text.now source.now.tokens.table.now source.now.tokens.count }
+    requires records_room { records_words ≤ length records.old }
+    requires blank { Blank index.old source.now.tokens.count }
+    ensures { OfDocument directory.now source.now records.new result }
 {
-    let graph = graph_at(dtext, dtable, dn);
-    let version = bad_version(dtext, dtable, dn);
-    let listed = header(dtext, dtable, dn, graph, &mut *index, version);
-    let walk = body(
-        ltext,
-        ltable,
-        ln,
-        lindex,
-        words,
-        dtext,
-        dtable,
-        dn,
-        &mut *index,
-        records,
-        graph,
-    );
+    let graph = graph_at(&source.tokens);
+    let version = bad_version(&source.tokens);
+    let listed = header(source, graph, &mut *index, version);
+    let walk = body(directory, source, &mut *index, records, graph);
     Ruled {
-        best: unmade(dtext, dtable, dn, graph, index, listed.earlier(walk.best)),
+        best: unmade(&source.tokens, graph, index, listed.earlier(walk.best)),
         calls: walk.calls,
         uses: walk.uses,
     }

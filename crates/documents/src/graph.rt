@@ -3,11 +3,12 @@ ghost use Rattle.std.specs.Prelude.{◌≡◌, [], ℕ, ◌-◌, ◌≤◌};
 ghost use Rattle.syntax.specs.Tree.{Document};
 ghost use Rattle.syntax.specs.Parser.{document};
 ghost use Rattle.syntax.specs.Parser.Parse.{ok};
-ghost use Rattle.syntax.specs.Table.{toks, Holds};
+ghost use Rattle.syntax.specs.Tokens.{from};
 ghost use Rattle.documents.specs.Graphs.{GraphAt};
 
 use crate::calls::find;
 use lexis::symbol::Symbol;
+use syntax::tokens::Tokens;
 
 // Places: where the inputs begin and close; where the outputs begin and close; where the body begins and its closing bracket stands.
 #[derive(Clone, Copy)]
@@ -23,31 +24,20 @@ pub struct Graph {
 // The place of a graph's first input.
 const FIRST_INPUT: usize = 5;
 
-// The place of the last of n tokens.
-fn last_of(n: usize) -> usize
-    ensures { result ≡ n - 1 }
-{
-    if n == 0 {
-        return 0;
-    }
-    n - 1
-}
-
 // The places of a document.
-pub fn graph_at(text: &[u8], table: &[u32], n: usize) -> Graph
-    requires { Holds text.now table.now n }
-    ensures inputs_le_n { (result.inputs ≤ n) × (result.closes ≤ n) × (result.end ≤ n) }
-    ensures by_index { (b : ℕ) (d : Document) → document b (toks text.now table.now n 0) ≡ ok d []
-        → GraphAt text.now table.now n b result d }
+pub fn graph_at(tokens: &Tokens<'_>) -> Graph
+    ensures inputs_le_n { (result.inputs ≤ tokens.now.count) × (result.closes ≤ tokens.now.count) × (result.end ≤ tokens.now.count) }
+    ensures by_index { (b : ℕ) (d : Document) → document b (from tokens.now 0) ≡ ok d []
+        → GraphAt tokens.now.text.now tokens.now.table.now tokens.now.count b result d }
 {
-    let inputs = find(text, table, n, FIRST_INPUT, Symbol::RIGHT_ROUND);
-    let closes = find(text, table, n, inputs + 3, Symbol::RIGHT_ROUND);
+    let inputs = find(tokens, FIRST_INPUT, Symbol::RIGHT_ROUND);
+    let closes = find(tokens, inputs + 3, Symbol::RIGHT_ROUND);
     Graph {
         first: FIRST_INPUT,
         inputs: inputs,
         outputs: inputs + 3,
         closes: closes,
         body: closes + 2,
-        end: last_of(n),
+        end: tokens.count.saturating_sub(1),
     }
 }

@@ -1,129 +1,107 @@
 // The header of a graph: its inputs and outputs.
 ghost use Rattle.std.specs.Prelude.{◌∷◌, [], suc, ◌+◌, ◌<◌, ◌≤◌};
-ghost use Rattle.lexis.specs.Sizes.{max_tokens};
-ghost use Rattle.syntax.specs.Table.{token_at, toks, Holds};
+ghost use Rattle.lexis.specs.Refusal.{refusal_number};
+ghost use Rattle.syntax.specs.Table.{token_at, toks};
+ghost use Rattle.syntax.specs.Tokens.{from};
 ghost use Rattle.index.specs.Indexed.{Walkable};
 ghost use Rattle.lists.specs.Scans.{names_among};
+ghost use Rattle.documents.specs.Naming.{listed_number};
 ghost use Rattle.documents.specs.NameWalks.{ListsNames, Unassigned};
 
-use crate::wiring::{Tally, Word, code_if};
+use crate::source::Source;
+use crate::wiring::{Listed, Tally, Word};
 use index::token::bytes_at;
 use index::{enter, keep_word, look_up};
-use lexis::code::Code;
+use lexis::refusal::Refusal;
 use lexis::symbol::Symbol;
 use lists::best::Best;
-use lists::word::start_at;
-use syntax::symbol::symbol_at;
+use syntax::tokens::Tokens;
 
 // The input or output at place i, if there is one: beyond the size, or listed already. It is entered as what it is.
 fn listed_at(
-    text: &[u8],
-    table: &[u32],
-    n: usize,
+    source: &Source<'_>,
     i: usize,
     size: usize,
-    which: usize,
+    which: Listed,
     index: &mut [u16],
     tally: Tally,
 ) -> Tally
-    requires holds { Holds text.now table.now n }
-    requires i_lt_n { (i < n) × (i < max_tokens) × (0 < which) × (which < 65536) × (tally.count ≤ i) }
-    requires walkable { Walkable index.old i n }
+    requires i_lt_n { (i < source.now.tokens.count) × (tally.count ≤ i) }
+    requires walkable { Walkable index.old i source.now.tokens.count }
     ensures count_bound { result.count ≤ suc i }
-    ensures walkable_2 { Walkable index.new (i + 1) n }
-    ensures lists_names { ListsNames text.now table.now index.old index.new i (i + 1) size which
-        (names_among (token_at text.now table.now i ∷ [])) tally result }
+    ensures walkable_2 { Walkable index.new (i + 1) source.now.tokens.count }
+    ensures lists_names { ListsNames source.now.tokens.text.now source.now.tokens.table.now index.old index.new i (i + 1) size (listed_number which)
+        (names_among (token_at source.now.tokens.text.now source.now.tokens.table.now i ∷ [])) tally result }
 {
-    if symbol_at(text, table, n, i) != Symbol::NAME {
+    if source.tokens.symbol_at(i) != Symbol::NAME {
         return tally;
     }
-    let p = enter(text, table, n, &mut *index, i);
-    let had = keep_word(&mut *index, p, Word::LISTING, which);
-    let again = code_if(had != 0, lists::code::Code::REPEATED_NAME, Code::ACCEPTED);
-    let code = code_if(tally.count == size, lists::code::Code::OVER_SIZE, again);
-    tally.next(code, start_at(table, i))
+    let p = enter(&source.tokens, &mut *index, i);
+    let had = keep_word(&mut *index, p, Word::LISTING, which.number());
+    let refusal = if tally.count == size {
+        Some(Refusal::OverSize)
+    } else if had.is_some() {
+        Some(Refusal::RepeatedName)
+    } else {
+        None
+    };
+    tally.next(refusal, source.tokens.start_at(i))
 }
 
 // The inputs or outputs at the places from `from` up to `to`.
 pub fn listed(
-    text: &[u8],
-    table: &[u32],
-    n: usize,
+    source: &Source<'_>,
     from: usize,
     to: usize,
     size: usize,
-    which: usize,
+    which: Listed,
     index: &mut [u16],
     tally: Tally,
 ) -> Tally
-    requires holds { Holds text.now table.now n }
-    requires from_le_to { (from ≤ to) × (to ≤ n) × (n ≤ max_tokens) × (0 < which) × (which < 65536) × (tally.count ≤ from) }
-    requires walkable { Walkable index.old from n }
-    ensures walkable_2 { Walkable index.new to n }
-    ensures lists_names { ListsNames text.now table.now index.old index.new from to size which
-        (names_among (toks text.now table.now to from)) tally result }
+    requires from_le_to { (from ≤ to) × (to ≤ source.now.tokens.count) × (tally.count ≤ from) }
+    requires walkable { Walkable index.old from source.now.tokens.count }
+    ensures walkable_2 { Walkable index.new to source.now.tokens.count }
+    ensures lists_names { ListsNames source.now.tokens.text.now source.now.tokens.table.now index.old index.new from to size (listed_number which)
+        (names_among (toks source.now.tokens.text.now source.now.tokens.table.now to from)) tally result }
 {
     let mut sum = tally;
-    let mut i = from;
-    while i < to {
-        sum = listed_at(text, table, n, i, size, which, &mut *index, sum);
-        i += 1;
+    for i in from..to {
+        sum = listed_at(source, i, size, which, &mut *index, sum);
     }
     sum
 }
 
-// The name at place i, if there is one and no call assigns it, as a fault of this code.
-fn unassigned_at(
-    text: &[u8],
-    table: &[u32],
-    n: usize,
-    i: usize,
-    index: &[u16],
-    code: u32,
-    best: Best,
-) -> Best
-    requires holds { Holds text.now table.now n }
-    requires i_lt_n { (i < n) × (0 < code) }
-    requires walkable { Walkable index.now n n }
-    ensures { Unassigned text.now table.now index.now code
-        (names_among (token_at text.now table.now i ∷ [])) best result }
+// The name at place i, if there is one and no call assigns it, as this refusal.
+fn unassigned_at(tokens: &Tokens<'_>, i: usize, index: &[u16], refusal: Refusal, best: Best) -> Best
+    requires i_lt_n { i < tokens.now.count }
+    requires walkable { Walkable index.now tokens.now.count tokens.now.count }
+    ensures { Unassigned tokens.now.text.now tokens.now.table.now index.now (refusal_number refusal)
+        (names_among (token_at tokens.now.text.now tokens.now.table.now i ∷ [])) best result }
 {
-    if symbol_at(text, table, n, i) != Symbol::NAME {
+    if tokens.symbol_at(i) != Symbol::NAME {
         return best;
     }
-    let a = look_up(
-        text,
-        table,
-        n,
-        index,
-        bytes_at(text, table, n, i),
-        Word::ASSIGNER,
-    );
-    best.earlier(Best::fault_if(a == 0, code, start_at(table, i)))
+    let a = look_up(tokens, index, bytes_at(tokens, i), Word::ASSIGNER);
+    best.earlier(Best::fault_if(a.is_none(), refusal, tokens.start_at(i)))
 }
 
 // The names at the places from `from` up to `to` that no call assigns.
 pub fn unassigned(
-    text: &[u8],
-    table: &[u32],
-    n: usize,
+    tokens: &Tokens<'_>,
     from: usize,
     to: usize,
     index: &[u16],
-    code: u32,
+    refusal: Refusal,
     best: Best,
 ) -> Best
-    requires holds { Holds text.now table.now n }
-    requires to_le_n { (to ≤ n) × (0 < code) }
-    requires walkable { Walkable index.now n n }
-    ensures { Unassigned text.now table.now index.now code
-        (names_among (toks text.now table.now to from)) best result }
+    requires to_le_n { to ≤ tokens.now.count }
+    requires walkable { Walkable index.now tokens.now.count tokens.now.count }
+    ensures { Unassigned tokens.now.text.now tokens.now.table.now index.now (refusal_number refusal)
+        (names_among (toks tokens.now.text.now tokens.now.table.now to from)) best result }
 {
     let mut sum = best;
-    let mut i = from;
-    while i < to {
-        sum = unassigned_at(text, table, n, i, index, code, sum);
-        i += 1;
+    for i in from..to {
+        sum = unassigned_at(tokens, i, index, refusal, sum);
     }
     sum
 }

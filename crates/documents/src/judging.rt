@@ -1,109 +1,86 @@
 // What the list says to a call: codes 15 to 20. The list stands in one table, with its directory and its names; the document in another.
-ghost use Rattle.std.specs.Prelude.{◌≡◌, ◌+◌, ◌<◌, ◌≤◌, min};
-ghost use Rattle.syntax.specs.Table.{Holds};
-ghost use Rattle.documents.specs.Judged.{Directed, Readable, ClosesAt, OfOperation, OfCall};
+ghost use Rattle.std.specs.Prelude.{◌≡◌, ◌+◌, ◌<◌, ◌≤◌, min, Some, IfSome};
+ghost use Rattle.documents.specs.Judged.{Readable, ClosesAt};
+ghost use Rattle.documents.specs.Directories.{OfOperation, OfCall};
 
 use crate::arguments::{fault_at, tally_all};
-use crate::code::Code;
+use crate::directory::Directory;
 use crate::mask::first_missing;
-use crate::operation::operation_at;
+use crate::operation::callee_at;
+use lexis::refusal::Refusal;
 use lists::best::Best;
-use lists::directory::{Lookup, find};
+use lists::directory::find;
 use lists::fitting::matches;
-use lists::word::start_at;
-use syntax::Parsed;
-use syntax::list::{Item, list};
+use syntax::list::Item;
+use syntax::tokens::Tokens;
 
-// The number of the operation of a call, 0 where there is none, its first fault of codes 15 to 20, and the place of the bracket that closes its arguments.
+// The number of the operation of a call, if it is declared, its first fault of codes 15 to 20, and the place of the bracket that closes its arguments.
 #[derive(Clone, Copy)]
 pub struct Judged {
-    pub op: usize,
+    pub op: Option<usize>,
     pub best: Best,
     pub close: usize,
 }
 
 // The place of the bracket that closes the arguments at place `at`, or the end.
-fn closing(text: &[u8], table: &[u32], n: usize, at: usize) -> usize
-    requires { Holds text.now table.now n }
-    ensures range { (min at n ≤ result) × (result ≤ n) }
-    ensures meaning { ClosesAt text.now table.now n at result }
+fn closing(tokens: &Tokens<'_>, at: usize) -> usize
+    ensures range { (min at tokens.now.count ≤ result) × (result ≤ tokens.now.count) }
+    ensures meaning { ClosesAt tokens.now.text.now tokens.now.table.now tokens.now.count at result }
 {
-    let read = list(text, table, n, at, Item::Argument);
-    let Parsed::Done(next) = read else {
-        return n;
+    let read = tokens.list(at, Item::Argument);
+    let Ok(next) = read else {
+        return tokens.count;
     };
     next - 1
 }
 
 // The call at place `at`, whose `=` stands at place `equal`, if its operation is number k of the directory: codes 16 to 20.
 fn declared(
-    ltext: &[u8],
-    ltable: &[u32],
-    ln: usize,
-    words: &[u32],
+    directory: &Directory<'_>,
     k: usize,
-    dtext: &[u8],
-    dtable: &[u32],
-    dn: usize,
+    doc: &Tokens<'_>,
     at: usize,
     equal: usize,
 ) -> Judged
-    requires holds { Holds ltext.now ltable.now ln }
-    requires holds_2 { Holds dtext.now dtable.now dn }
-    requires readable { Readable words.now ln k }
-    requires at_lt_dn { (at < dn) × (equal + 3 < dn) }
-    ensures range { (result.op ≡ k) × (equal ≤ result.close) × (result.close ≤ dn) }
-    ensures meaning { OfOperation ltext.now ltable.now words.now ln k
-        dtext.now dtable.now dn at equal result }
+    requires readable { Readable directory.now.words.now directory.now.tokens.count k }
+    requires at_lt_dn { (at < doc.now.count) × (equal + 3 < doc.now.count) }
+    ensures range { (result.op ≡ Some k) × (equal ≤ result.close) × (result.close ≤ doc.now.count) }
+    ensures meaning { OfOperation directory.now k doc.now at equal result }
 {
-    let o = operation_at(words, k);
-    let t = tally_all(dtext, dtable, dn, equal + 3, ltext, ltable, ln, words, o);
-    let missing = first_missing(o.required, t.bound, start_at(dtable, equal + 1));
-    let matched = matches(dtext, dtable, dn, at, ltext, ltable, ln, o.results, o.code);
-    let unmatched = Best::fault_if(!matched, Code::UNMATCHED, start_at(dtable, at));
+    let callee = callee_at(&directory.tokens, directory.words, k);
+    let o = callee.operation;
+    let t = tally_all(doc, &callee, equal + 3);
+    let missing = first_missing(o.required, t.bound, doc.start_at(equal + 1));
+    let matched = matches(doc, at, &directory.tokens, o.results, o.code);
+    let unmatched = Best::fault_if(!matched, Refusal::Unmatched, doc.start_at(at));
     Judged {
-        op: k,
+        op: Some(k),
         best: t.best.earlier(missing).earlier(unmatched),
         close: t.at,
     }
 }
 
 // The call at place `at`, whose `=` stands at place `equal`, under the list.
-pub fn judge(
-    ltext: &[u8],
-    ltable: &[u32],
-    ln: usize,
-    index: &[u16],
-    words: &[u32],
-    dtext: &[u8],
-    dtable: &[u32],
-    dn: usize,
-    at: usize,
-    equal: usize,
-) -> Judged
-    requires holds { Holds ltext.now ltable.now ln }
-    requires holds_2 { Holds dtext.now dtable.now dn }
-    requires directed { Directed ltext.now ltable.now index.now words.now ln }
-    requires at_lt_dn { (at < dn) × (equal ≤ dn) }
-    ensures range { (result.op < 65536) × (equal ≤ result.close) × (result.close ≤ dn) }
-    ensures meaning { OfCall ltext.now ltable.now index.now words.now ln
-        dtext.now dtable.now dn at equal result }
+pub fn judge(directory: &Directory<'_>, doc: &Tokens<'_>, at: usize, equal: usize) -> Judged
+    requires at_lt_dn { (at < doc.now.count) × (equal ≤ doc.now.count) }
+    ensures range { IfSome result.op (λ k. k < 65536) × (equal ≤ result.close) × (result.close ≤ doc.now.count) }
+    ensures meaning { OfCall directory.now doc.now at equal result }
 {
-    if dn <= equal + 3 {
+    if doc.count <= equal + 3 {
         return Judged {
-            op: 0,
+            op: None,
             best: Best::none(),
-            close: dn,
+            close: doc.count,
         };
     }
     let name = equal + 1;
-    let found = find(ltext, ltable, ln, index, dtext, dtable, dn, name);
-    let Lookup::At(k) = found else {
+    let found = find(&directory.tokens, directory.index, doc, name);
+    let Some(k) = found else {
         return Judged {
-            op: 0,
-            best: fault_at(dtext, dtable, dn, name, Code::UNDECLARED),
-            close: closing(dtext, dtable, dn, equal + 3),
+            op: None,
+            best: fault_at(doc, name, Refusal::Undeclared),
+            close: closing(doc, equal + 3),
         };
     };
-    declared(ltext, ltable, ln, words, k, dtext, dtable, dn, at, equal)
+    declared(directory, k, doc, at, equal)
 }

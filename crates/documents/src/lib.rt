@@ -3,15 +3,18 @@
 
 pub mod arguments;
 mod body;
+pub mod callee;
 pub mod calls;
 pub mod check;
-mod code;
+pub mod directory;
 mod document;
 pub mod graph;
 mod header;
 mod judging;
 mod mask;
 pub mod operation;
+pub mod parameters;
 pub mod records;
+pub mod source;
 pub mod stages;
 mod wiring;

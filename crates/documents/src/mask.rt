@@ -6,8 +6,8 @@ ghost use Rattle.lists.specs.Masks.{mask_of};
 ghost use Rattle.documents.specs.Binding.{lacked};
 ghost use Rattle.documents.specs.Arguments.{without};
 
-use crate::code::Code;
-use lists::best::Best;
+use lexis::refusal::Refusal;
+use lists::best::{Best, Fault};
 
 // Code 19 at this place, with the first parameter that is required and not bound.
 pub fn first_missing(required: u32, bound: u32, place: u32) -> Best
@@ -19,8 +19,10 @@ pub fn first_missing(required: u32, bound: u32, place: u32) -> Best
         return Best::none();
     }
     Best {
-        at: place,
-        code: Code::UNBOUND,
-        detail: u32::trailing_zeros(missing),
+        fault: Some(Fault {
+            at: place,
+            refusal: Refusal::Unbound,
+            detail: u32::trailing_zeros(missing),
+        }),
     }
 }

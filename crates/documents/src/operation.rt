@@ -1,10 +1,13 @@
 // The operation of a call, as the directory of the list has it.
 ghost use Rattle.std.specs.Prelude.{◌≡◌, ◌+◌, ◌*◌, ◌<◌, ◌≤◌, length};
 ghost use Rattle.lists.specs.Directory.{operation_word, operation_words, parameter_word, parameter_words, first_parameter};
-ghost use Rattle.documents.specs.Tallies.{Copied};
+ghost use Rattle.documents.specs.Tallies.{operation_in};
+ghost use Rattle.documents.specs.Judged.{Readable};
+ghost use Rattle.documents.specs.Callees.{Called};
 
-use lists::directory::{Op, Param};
-use lists::word::word;
+use crate::callee::Callee;
+use lists::directory::Op;
+use syntax::tokens::Tokens;
 
 // The number of its first parameter, how many it has, the mask of those without a default, the place of its first result, and the number of the type of
 // its only result.
@@ -21,39 +24,27 @@ pub struct Operation {
 pub fn operation_at(words: &[u32], k: usize) -> Operation
     requires operation_words_in_bounds { k * operation_words + 5 < length words.now }
     requires k_bound { operation_word words.now k 1 ≤ operation_word words.now k 2 }
-    ensures { Copied words.now k result }
+    ensures { result ≡ operation_in words.now k }
 {
     let o = k * Op::WORDS;
-    let first = word(words, o + Op::FIRST);
+    let first = words[o + Op::FIRST] as usize;
     Operation {
         first: first,
-        count: word(words, o + Op::END) - first,
+        count: words[o + Op::END] as usize - first,
         required: words[o + Op::REQUIRED],
-        results: word(words, o + Op::RESULTS),
+        results: words[o + Op::RESULTS] as usize,
         code: words[o + Op::RESULT],
     }
 }
 
-// The place of the name of parameter j.
-pub fn name_of(words: &[u32], j: usize) -> usize
-    requires { first_parameter + j * parameter_words + 2 < length words.now }
-    ensures { result ≡ parameter_word words.now j 0 }
+// The same with the list that has it.
+pub fn callee_at<'a>(list: &Tokens<'a>, words: &'a [u32], k: usize) -> Callee<'a>
+    requires { Readable words.now list.now.count k }
+    ensures { Called list.now words.now k result }
 {
-    word(words, Param::FIRST + j * Param::WORDS + Param::NAME)
-}
-
-// The number of the type of parameter j.
-pub fn code_of(words: &[u32], j: usize) -> u32
-    requires { first_parameter + j * parameter_words + 2 < length words.now }
-    ensures { result ≡ parameter_word words.now j 1 }
-{
-    words[Param::FIRST + j * Param::WORDS + Param::TYPE]
-}
-
-// The place of the default of parameter j, or 0.
-pub fn default_of(words: &[u32], j: usize) -> usize
-    requires { first_parameter + j * parameter_words + 2 < length words.now }
-    ensures { result ≡ parameter_word words.now j 2 }
-{
-    word(words, Param::FIRST + j * Param::WORDS + Param::DEFAULT)
+    Callee {
+        list: *list,
+        words: words,
+        operation: operation_at(words, k),
+    }
 }

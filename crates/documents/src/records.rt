@@ -1,4 +1,5 @@
-// The records of calls and wires as the walk over the calls keeps them: those of calls in front, those of wires behind.
+// The records of calls and wires as the walk over the calls keeps them: those of calls in front, those of wires behind. They are words of fixed memory, as
+// the lent tables hold them, into which they are copied; words of 16 bits, so that they take half of the room.
 ghost use Rattle.std.specs.Prelude.{◌≡◌, List, [], ◌∷◌, ℕ, ◌+◌, ◌<◌, ◌≤◌, length};
 ghost use Rattle.std.proofs.lemmas.List.Edits.{sets};
 ghost use Rattle.documents.specs.Records.{records_words, call_stored, wire_stored, Stored};
@@ -56,9 +57,7 @@ pub fn copy(records: &[u16], from: usize, count: usize, table: &mut [u32])
     ensures table_len_unchanged { length table.new ≡ length table.old }
     ensures by_index { (xs : List ℕ) → count ≡ length xs → Stored records.now from xs → table.new ≡ sets table.old 0 xs }
 {
-    let mut i = 0;
-    while i < count {
+    for i in 0..count {
         table[i] = records[from + i] as u32;
-        i += 1;
     }
 }

@@ -1,18 +1,21 @@
 // The stages of both texts, shared by the operations on a document: those of the list, then those of the document under it.
-ghost use Rattle.std.specs.Prelude.{◌≡◌, ◌≤◌, min, length};
-ghost use Rattle.lexis.specs.Bytes.{class_table};
+ghost use Rattle.std.specs.Prelude.{◌≡◌, ◌+◌, ◌*◌, ◌/◌, ◌<◌, ◌≤◌, min, length};
 ghost use Rattle.lexis.specs.Sizes.{max_text, max_tokens, work_words};
-ghost use Rattle.lists.specs.Stages.{Served, ListPassed};
-ghost use Rattle.documents.specs.Graphs.{Blank};
+ghost use Rattle.lists.specs.Stages.{Served};
+ghost use Rattle.index.specs.Layout.{index_words};
+ghost use Rattle.lists.specs.Directory.{first_parameter, parameter_words};
 ghost use Rattle.documents.specs.Records.{records_words};
 ghost use Rattle.documents.specs.Stages.{DocumentRead, BothDone, RecordsDone};
+ghost use Rattle.documents.specs.Directories.{Passed, UnderDone};
 
+use crate::directory::Directory;
 use crate::document::document_rules;
+use crate::source::Source;
 use index::layout::Layout;
-use lexis::class::CLASSES;
-use lexis::{Answer, Counted};
+use lexis::Answer;
 use lists::directory::Room;
-use lists::list::{Listed, list_stages};
+use lists::list::list_stages;
+use syntax::tokens::Tokens;
 use syntax::{Syntax, read};
 
 // How many tokens and operations the list has, and how many tokens, calls and uses the document.
@@ -25,120 +28,85 @@ pub struct Sizes {
     pub uses: usize,
 }
 
-// What the stages of both texts come to: their sizes, or a refusal.
-#[derive(Clone, Copy)]
-pub enum Staged {
-    Passed(Sizes),
-    Stopped(Answer),
-}
-
 // A document of at most so many tokens takes an index that is soon cleared.
 const FEW: usize = 256;
 
 const SHORT_INDEX: usize = Layout::CHAINS + FEW * Layout::PLACE_WORDS;
 
-// The rules of a document of m tokens under its list, by way of an empty index.
-fn rules_by(
-    index: &mut [u16],
-    list: &[u8],
-    work1: &[u32],
-    n: usize,
-    lindex: &[u16],
-    words: &[u32],
+// The rules of a document under its list, which has k operations, by way of an index of N words.
+// That the list has passed is a clause and no ghost field of `Directory`: it comes with the list's headers, and a ghost field may hold only a fact of which
+// there is one proof, from which the headers that the promise speaks of could not be taken.
+fn rules_in<const N: usize>(
+    list: &Directory<'_>,
     k: usize,
-    doc: &[u8],
-    work2: &[u32],
-    m: usize,
+    source: &Source<'_>,
     records: &mut [u16],
-) -> Staged
-    requires list_passed { ListPassed list.now work1.now lindex.now words.now n k }
-    requires document_read { DocumentRead doc.now work2.now m }
-    requires doc_len_bound { (length doc.now ≤ max_text) × (records_words ≤ length records.old) }
-    requires blank { Blank index.old m }
-    ensures { BothDone list.now doc.now work1.now work2.now lindex.now words.now
-        records.new result }
+) -> Result<Sizes, Answer>
+    requires list_passed { Passed list.now k }
+    requires document_read { DocumentRead source.now.tokens.text.now source.now.tokens.table.now source.now.tokens.count }
+    requires records_room { records_words ≤ length records.old }
+    requires room { (index_words source.now.tokens.count ≤ N) × (N < 65536) }
+    ensures { UnderDone list.now source.now.tokens.text.now source.now.tokens.table.now records.new result }
 {
-    let ruled = document_rules(list, work1, n, lindex, words, doc, work2, m, index, records);
-    let best = ruled.best;
-    if best.code != lexis::code::Code::ACCEPTED {
-        return Staged::Stopped(Answer {
-            code: best.code,
-            text: 2,
-            position: best.at,
-            detail: best.detail,
-        });
+    // An array on the stack: no heap, fixed memory.
+    let mut index = [0u16; N];
+    let ruled = document_rules(list, source, &mut index, records);
+    if let Some(fault) = ruled.best.fault {
+        return Err(Answer::refused(fault.refusal, 2, fault.at, fault.detail));
     }
-    Staged::Passed(Sizes {
-        list: n,
+    Ok(Sizes {
+        list: list.tokens.count,
         operations: k,
-        document: m,
+        document: source.tokens.count,
         calls: ruled.calls,
         uses: ruled.uses,
     })
 }
 
-// The rules of a document of m tokens under its list.
+// The rules of a document under its list, which has k operations.
 fn rules_stage(
-    list: &[u8],
-    work1: &[u32],
-    n: usize,
-    lindex: &[u16],
-    words: &[u32],
+    list: &Directory<'_>,
     k: usize,
-    doc: &[u8],
-    work2: &[u32],
-    m: usize,
+    source: &Source<'_>,
     records: &mut [u16],
-) -> Staged
-    requires list_passed { ListPassed list.now work1.now lindex.now words.now n k }
-    requires document_read { DocumentRead doc.now work2.now m }
-    requires doc_len_bound { (length doc.now ≤ max_text) × (records_words ≤ length records.old) }
-    ensures { BothDone list.now doc.now work1.now work2.now lindex.now words.now
-        records.new result }
+) -> Result<Sizes, Answer>
+    requires list_passed { Passed list.now k }
+    requires document_read { DocumentRead source.now.tokens.text.now source.now.tokens.table.now source.now.tokens.count }
+    requires records_room { records_words ≤ length records.old }
+    ensures { UnderDone list.now source.now.tokens.text.now source.now.tokens.table.now records.new result }
 {
-    if m <= FEW {
-        let mut short = [0u16; SHORT_INDEX];
-        return rules_by(
-            &mut short, list, work1, n, lindex, words, k, doc, work2, m, records,
-        );
+    if source.tokens.count <= FEW {
+        return rules_in::<SHORT_INDEX>(list, k, source, records);
     }
-    let mut index = [0u16; Layout::WORDS];
-    rules_by(
-        &mut index, list, work1, n, lindex, words, k, doc, work2, m, records,
-    )
+    rules_in::<{ Layout::WORDS }>(list, k, source, records)
 }
 
-// The stages of a document under a list that has passed its own.
+// The stages of a document under a list of k operations that has passed its own.
 fn document_stages(
-    classes: &[u8; 256],
-    list: &[u8],
-    work1: &[u32],
-    n: usize,
-    lindex: &[u16],
-    words: &[u32],
+    list: &Directory<'_>,
     k: usize,
     doc: &[u8],
     work2: &mut [u32],
     records: &mut [u16],
-) -> Staged
-    requires classes_value { classes.now ≡ class_table }
-    requires list_passed { ListPassed list.now work1.now lindex.now words.now n k }
+) -> Result<Sizes, Answer>
+    requires list_passed { Passed list.now k }
     requires doc_len_bound { length doc.now ≤ max_text }
     requires work_words_in_bounds { (work_words ≤ length work2.old) × (records_words ≤ length records.old) }
-    ensures both_done { BothDone list.now doc.now work1.now work2.new lindex.now words.now
-        records.new result }
+    ensures under_done { UnderDone list.now doc.now work2.new records.new result }
     ensures work2_len_unchanged { length work2.new ≡ length work2.old }
 {
-    match read(classes, doc, &mut *work2, Syntax::Document) {
-        Counted::Tokens(m) => rules_stage(
-            list, work1, n, lindex, words, k, doc, work2, m as usize, records,
-        ),
-        Counted::Fault { code, at } => Staged::Stopped(Answer {
-            code: code,
-            text: 2,
-            position: at,
-            detail: 0,
-        }),
+    match read(doc, &mut *work2, Syntax::Document) {
+        Ok(m) => {
+            let source = Source {
+                tokens: Tokens {
+                    text: doc,
+                    table: work2,
+                    count: m as usize,
+                },
+            };
+            rules_stage(list, k, &source, records)
+        }
+        Err(fault) => Err(Answer::refused(fault.refusal, 2, fault.at, 0)),
     }
 }
 
@@ -152,7 +120,7 @@ pub fn both_stages(
     lindex: &mut [u16],
     words: &mut [u32],
     records: &mut [u16],
-) -> Staged
+) -> Result<Sizes, Answer>
     requires list_len_bound { (length list.now ≤ max_text) × (length doc.now ≤ max_text) }
     requires work_words_in_bounds { (work_words ≤ length work1.old) × ((work_words ≤ length work2.old) × (records_words ≤ length records.old)) }
     requires served { Served lindex.old words.old (min (length list.now) max_tokens) }
@@ -161,23 +129,50 @@ pub fn both_stages(
     ensures work1_len_unchanged { length work1.new ≡ length work1.old }
     ensures work2_len_unchanged { length work2.new ≡ length work2.old }
 {
-    let classes = CLASSES;
-    match list_stages(&classes, list, &mut *work1, &mut *lindex, &mut *words) {
-        Listed::Passed(n, k) => document_stages(
-            &classes, list, work1, n, lindex, words, k, doc, work2, records,
-        ),
-        Listed::Stopped(r) => Staged::Stopped(r),
-    }
+    let listed = list_stages(list, &mut *work1, &mut *lindex, &mut *words)?;
+    let directory = Directory {
+        tokens: Tokens {
+            text: list,
+            table: work1,
+            count: listed.tokens,
+        },
+        index: lindex,
+        words,
+    };
+    document_stages(&directory, listed.operations, doc, work2, records)
 }
 
-// The same by way of words of its own for the list's directory and its names: where the stages pass, `records` is all that is left.
+// The same by way of INDEX words of its own for the list's names and WORDS for its directory.
+fn recorded_in<const INDEX: usize, const WORDS: usize>(
+    list: &[u8],
+    doc: &[u8],
+    work1: &mut [u32],
+    work2: &mut [u32],
+    records: &mut [u16],
+) -> Result<Sizes, Answer>
+    requires list_len_bound { (length list.now ≤ max_text) × (length doc.now ≤ max_text) }
+    requires work_words_in_bounds { (work_words ≤ length work1.old) × ((work_words ≤ length work2.old) × (records_words ≤ length records.old)) }
+    requires index_room { (index_words (min (length list.now) max_tokens) ≤ INDEX) × (INDEX < 65536) }
+    requires words_room { (first_parameter + min (length list.now) max_tokens / 4 * parameter_words ≤ WORDS) × (WORDS < 65536) }
+    ensures records_done { RecordsDone list.now doc.now records.new result }
+    ensures work1_len_unchanged { length work1.new ≡ length work1.old }
+    ensures work2_len_unchanged { length work2.new ≡ length work2.old }
+{
+    // Arrays on the stack: no heap, fixed memory.
+    let mut index = [0u16; INDEX];
+    let mut words = [0u32; WORDS];
+    both_stages(list, doc, work1, work2, &mut index, &mut words, records)
+}
+
+// All stages of both texts. Where they pass, `records` is all that is left. `canonical` makes the same choice of sizes in `text_stages`; what is called for
+// either size differs, so that one function for both would take it as a closure with all of its contract.
 pub fn recorded_stages(
     list: &[u8],
     doc: &[u8],
     work1: &mut [u32],
     work2: &mut [u32],
     records: &mut [u16],
-) -> Staged
+) -> Result<Sizes, Answer>
     requires list_len_bound { (length list.now ≤ max_text) × (length doc.now ≤ max_text) }
     requires work_words_in_bounds { (work_words ≤ length work1.old) × ((work_words ≤ length work2.old) × (records_words ≤ length records.old)) }
     ensures records_done { RecordsDone list.now doc.now records.new result }
@@ -185,11 +180,9 @@ pub fn recorded_stages(
     ensures work2_len_unchanged { length work2.new ≡ length work2.old }
 {
     if list.len() <= Room::SHORT_TEXT {
-        let mut index = [0u16; Room::SHORT_INDEX];
-        let mut directory = [0u32; Room::SHORT_WORDS];
-        return both_stages(list, doc, work1, work2, &mut index, &mut directory, records);
+        return recorded_in::<{ Room::SHORT_INDEX }, { Room::SHORT_WORDS }>(
+            list, doc, work1, work2, records,
+        );
     }
-    let mut lindex = [0u16; Room::INDEX];
-    let mut words = [0u32; Room::WORDS];
-    both_stages(list, doc, work1, work2, &mut lindex, &mut words, records)
+    recorded_in::<{ Room::INDEX }, { Room::WORDS }>(list, doc, work1, work2, records)
 }

@@ -3,7 +3,7 @@ ghost use Rattle.std.specs.Prelude.{◌≡◌, ◌-◌, ◌/◌, ◌<◌, length
 ghost use Rattle.index.specs.Hash.{mixed, mixes, short_hash, hash_of, chain_of};
 
 use crate::layout::Layout;
-use spellings::packed::{four, wide};
+use spellings::packed::four;
 
 // One number more.
 fn mix(h: u64, v: u64) -> u64
@@ -21,7 +21,7 @@ fn short_hash(w: &[u8]) -> u64
     let n = w.len();
     mix(
         n as u64,
-        wide(w[0]) + wide(w[n / 2]) * 256 + wide(w[n - 1]) * 65536,
+        u64::from(w[0]) + u64::from(w[n / 2]) * 256 + u64::from(w[n - 1]) * 65536,
     )
 }
 
@@ -30,12 +30,9 @@ fn long_hash(w: &[u8], first: u64) -> u64
     requires { 8 < length w.now }
     ensures { result ≡ mixes ((length w.now - 5) / 4) w.now 4 first }
 {
-    let to = w.len() - 4;
     let mut h = first;
-    let mut i = 4;
-    while i < to {
-        h = mix(h, four(w, i));
-        i += 4;
+    for k in 0..(w.len() - 5) / 4 {
+        h = mix(h, four(w, 4 + k * 4));
     }
     h
 }

@@ -2,19 +2,20 @@
 use mathlib.Core.Path.{◌≡◌, refl, sym, ap, ◌∙◌, subst}
 use mathlib.Core.Bool.{Bool, true, false, cond}
 use mathlib.Core.List.{List, [], ◌∷◌, ◌++◌}
-use Prim.Native.Nat.{ℕ, suc, ◌+◌, ◌*◌, ◌<◌, ◌≤◌, min}
+use Prim.Native.Nat.{ℕ, suc, ◌+◌, ◌*◌, ◌<◌, ◌≤◌}
 use native.Mathlib.Omega.{arith}
 use lib.Dec.{leb}
-use lib.ListN.{length, replicate, take, drop, get_or, set, length-append, length-replicate}
+use lib.ListN.{length, take, drop, get_or, set, length-append}
 use lib.Seq.{sets, sets-eq, take_at, length-take-le, get_or-take, get_or-append-add, get_or-set_other}
-use Rattle.lexis.specs.Sizes.{max_text, max_tokens, record_words, first_mark, token_words, table_words}
+use Rattle.lexis.specs.Code as Code
+use Rattle.lexis.specs.Sizes.{max_text, record_words, token_words, table_words}
 use Rattle.lexis.specs.Lexer.{Token, Lexed, accepted, refused, lex}
 use Rattle.lexis.specs.Answer.{answer, token_records, counted_after, answer_of, recorded, tokens_answer, tokens_table}
 use Rattle.lexis.specs.Work.{records, Recorded, Room, Held}
 use Rattle.lexis.proofs.Laid.{records-length}
 use Rattle.lexis.specs.declared.Answer.{Answer}
-use Rattle.lexis.specs.declared.Counted.{Counted}
-use Rattle.lexis.specs.declared.Counted.TheVariants.{Tokens, Fault}
+use Rattle.lexis.specs.Answer.{Counted}
+use Rattle.lexis.specs.Answer.{Tokens, Fault}
 
 pub room_of : (r : Counted) (n m : ℕ) → r ≡ Tokens n → Room r m → Room (Tokens n) m
 room_of r n m e h = subst (λ (x : Counted). Room x m) e h
@@ -38,19 +39,17 @@ pub kept-by-fault : (l : Lexed) (k p : ℕ) (text table : List ℕ) → Fault k 
 kept-by-fault (accepted ts) k p text table e = let z : ◌≡◌ {A = ℕ} 0 1 = cc in absurd (omega arith)
 kept-by-fault (refused c d) k p text table e = refl
 
--- a work area of so many words has room for the records of any text
-pub room_for : (n m : ℕ) → m ≡ first_mark → record_words * min n max_tokens ≤ length {A = ℕ} (replicate m 0)
-room_for n m e = omega (arith, length-replicate {A = ℕ} m 0, e)
-
 module _ (text table : List ℕ) where
-  pub short-table : leb table_words (length table) ≡ false → (answer 1 0 0 0 ≡ tokens_answer text table) × (table ≡ tokens_table text table)
+  pub short-table : {r : Answer} → leb table_words (length table) ≡ false → r ≡ answer Code.short_room 0 0 0
+      → (r ≡ tokens_answer text table) × (table ≡ tokens_table text table)
   unfolding tokens_answer tokens_table
-  short-table t = (rw t, rw t)
+  short-table t a = (rw t a, rw t)
 
   module _ (serves : leb table_words (length table) ≡ true) where
-    pub long-text : leb (length text) max_text ≡ false → (answer 2 1 max_text 0 ≡ tokens_answer text table) × (table ≡ tokens_table text table)
+    pub long-text : {r : Answer} → leb (length text) max_text ≡ false → r ≡ answer Code.long_text 1 max_text 0
+        → (r ≡ tokens_answer text table) × (table ≡ tokens_table text table)
     unfolding tokens_answer tokens_table
-    long-text t = (rw (serves, t), rw (serves, t))
+    long-text t a = (rw (serves, t) a, rw (serves, t))
 
     pub tokens-by : leb (length text) max_text ≡ true → (r : Answer) (after : List ℕ) → r ≡ answer_of (counted_after 0 (lex text))
         → after ≡ recorded text table (lex text)

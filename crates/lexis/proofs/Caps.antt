@@ -2,13 +2,14 @@
 use mathlib.Core.Path.{◌≡◌, refl, sym, ap, ◌∙◌}
 use mathlib.Core.Bool.{Bool, true, false, cond}
 use mathlib.Core.List.{List, [], ◌∷◌, ◌++◌}
-use Prim.Native.Nat.{ℕ, ◌+◌, ◌-◌, ◌*◌, ◌^◌, ◌≤◌, ◌<◌, min}
-use native.Mathlib.Nat.{pow-suc, mul_assoc}
+use Prim.Native.Nat.{ℕ, zero, suc, ◌+◌, ◌-◌, ◌*◌, ◌^◌, ◌≤◌, ◌<◌, min}
+use native.Mathlib.Nat.{pow-suc, mul_assoc, suc-mul}
 use native.Mathlib.Numerals.{add-one}
+use native.Mathlib.Decide.{dec_lt}
 use native.Mathlib.Omega.{arith}
 use lib.Dec.{eqb}
-use lib.ListN.{length, take, drop, get_or, length-drop}
-use lib.Seq.{take-suc, get_or-drop}
+use lib.ListN.{length, take, get_or}
+use lib.Seq.{take-suc}
 use borrow.Author.Tests.{ne_eqb}
 use Rattle.lexis.specs.Sizes.{written_end, mantissa_end}
 use Rattle.lexis.specs.Number.{value_from}
@@ -18,29 +19,36 @@ use Rattle.lexis.specs.declared.mantissa.Mantissa.{Mantissa}
 pub times-ten : (x i : ℕ) → x * 10 ^ (i + 1) ≡ x * 10 ^ i * 10
 times-ten x i = rw (add-one i, pow-suc 10 i) (sym (mul_assoc x (10 ^ i) 10))
 
-pub scale-none : (x : ℕ) → x ≤ mantissa_end → x ≡ min (x * 10 ^ 0) mantissa_end
-scale-none x h = omega arith
+-- the greatest number that a u64 holds
+abbrev largest : ℕ
+largest = 18446744073709551615
 
-pub scale-more : (x i v w : ℕ) → v ≡ min (x * 10 ^ i) mantissa_end → w ≡ min (v * 10) mantissa_end → w ≡ min (x * 10 ^ (i + 1)) mantissa_end
-scale-more x i v w e f = omega (arith, times-ten x i)
+-- a product that saturates, capped, is the product capped
+pub saturated : (x p : ℕ) → min (min (x * min p largest) largest) mantissa_end ≡ min (x * p) mantissa_end
+saturated x p = go (dec_lt largest p)
+  where
+    big : (x : ℕ) → largest < p → min (min (x * largest) largest) mantissa_end ≡ min (x * p) mantissa_end
+    big zero l = omega arith
+    big (suc x) l = omega (arith, suc-mul x p)
 
--- one more byte of a part of a text
-pub take_more : (s : List ℕ) (from j : ℕ) → from + j < length s → take (j + 1) (drop from s) ≡ take j (drop from s) ++ (get_or s (from + j) 0 ∷ [])
-take_more s from j h =
-    let l : j < length (drop from s) = omega (arith, length-drop from s) in
-    rw (add-one j, take-suc (drop from s) j 0 l, get_or-drop from s j 0)
+    go : Dec (largest < p) → min (min (x * min p largest) largest) mantissa_end ≡ min (x * p) mantissa_end
+    go (yes l) = let e : min p largest ≡ largest = omega arith in rw e (big x l)
+    go (no l) = let e : min p largest ≡ p = omega arith in rw e (omega arith)
+
+-- one more byte
+take_more : (s : List ℕ) (j : ℕ) → j < length s → take (j + 1) s ≡ take j s ++ (get_or s j 0 ∷ [])
+take_more s j h = rw (add-one j, take-suc s j 0 h)
 
 pub value-snoc : (v : ℕ) (ds : List ℕ) (d : ℕ) → value_from v (ds ++ (d ∷ [])) ≡ value_from v ds * 10 + (d - 48)
 unfolding value_from
 value-snoc v [] d = refl
 value-snoc v (x ∷ ds) d = value-snoc (v * 10 + (x - 48)) ds d
 
-pub value-more : (s : List ℕ) (from j v w : ℕ) → from + j < length s → v ≡ min (value_from 0 (take j (drop from s))) written_end
-    → w ≡ min (v * 10 + (get_or s (from + j) 0 - 48)) written_end → w ≡ min (value_from 0 (take (j + 1) (drop from s))) written_end
-value-more s from j v w h e f =
-    rw (take_more s from j h, value-snoc 0 (take j (drop from s)) (get_or s (from + j) 0)) (omega arith)
+pub value-more : (s : List ℕ) (j v w : ℕ) → j < length s → v ≡ min (value_from 0 (take j s)) written_end
+    → w ≡ min (v * 10 + (get_or s j 0 - 48)) written_end → w ≡ min (value_from 0 (take (j + 1) s)) written_end
+value-more s j v w h e f = rw (take_more s j h, value-snoc 0 (take j s) (get_or s j 0)) (omega arith)
 
-pub push-snoc : (m : Mantissa) (ds : List ℕ) (d : ℕ) → push_all m (ds ++ (d ∷ [])) ≡ push (push_all m ds) d
+push-snoc : (m : Mantissa) (ds : List ℕ) (d : ℕ) → push_all m (ds ++ (d ∷ [])) ≡ push (push_all m ds) d
 unfolding push_all
 push-snoc m [] d = refl
 push-snoc m (x ∷ ds) d = push-snoc (push m x) ds d
@@ -76,10 +84,9 @@ push-bounded m k d h =
     (record { capped = h.capped; few = omega (arith, h.few) }))
     (record { capped = omega arith; few = omega arith })
 
-pub push-more : (s : List ℕ) (from j : ℕ) (m a b : Mantissa) → from + j < length s → a ≡ push_all m (take j (drop from s)) → b ≡ push a (get_or s (from + j) 0)
-    → b ≡ push_all m (take (j + 1) (drop from s))
-push-more s from j m a b h e f =
-    f ∙ ap (λ (x : Mantissa). push x (get_or s (from + j) 0)) e ∙ sym (rw (take_more s from j h) (push-snoc m (take j (drop from s)) (get_or s (from + j) 0)))
+pub push-more : (s : List ℕ) (j : ℕ) (m a b : Mantissa) → j < length s → a ≡ push_all m (take j s) → b ≡ push a (get_or s j 0)
+    → b ≡ push_all m (take (j + 1) s)
+push-more s j m a b h e f = f ∙ ap (λ (x : Mantissa). push x (get_or s j 0)) e ∙ sym (rw (take_more s j h) (push-snoc m (take j s) (get_or s j 0)))
 
 pub all-bounded : (m : Mantissa) (k : ℕ) (ds : List ℕ) → Bounded k m → Bounded (k + length ds) (push_all m ds)
 unfolding push_all

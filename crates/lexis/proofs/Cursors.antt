@@ -15,16 +15,14 @@ use Rattle.lexis.specs.Kind.{IsKind}
 use Rattle.lexis.specs.Bytes.{class_of, span_len, gap_from, gap_len}
 use Rattle.lexis.specs.Lexeme.{lexeme}
 use Rattle.lexis.specs.Lexer.{Lexed, accepted, refused, prepend, lex_from}
-use Rattle.lexis.specs.Runs.{passes}
+use Rattle.lexis.specs.Runs.{is_space, in_comment}
 use Rattle.lexis.specs.Steps.{step_to, gap_to, step_at}
-use Rattle.lexis.specs.declared.token.Lexeme.{Lexeme}
-use Rattle.lexis.specs.declared.token.Lexeme.TheVariants as L
+use Rattle.lexis.specs.Lexeme.{Lexeme}
+use Rattle.lexis.specs.Lexeme as L
 use Rattle.lexis.specs.declared.cursor.Cursor.{Cursor}
-use Rattle.lexis.specs.declared.cursor.Record.{Record}
-use Rattle.lexis.specs.declared.cursor.Step.{Step}
-use Rattle.lexis.specs.declared.cursor.Step.TheVariants.{Next, Mark, Gap, End, Fault}
-use Rattle.lexis.specs.declared.span.Run.{Run}
-use Rattle.lexis.specs.declared.span.Run.TheVariants.{Spaces, Comment}
+use Rattle.lexis.specs.Steps.{Record}
+use Rattle.lexis.specs.Steps.{Step}
+use Rattle.lexis.specs.Steps.{Next, Gap, End, Fault}
 use Rattle.lexis.proofs.Lengths.{Sized, sized}
 use Rattle.lexis.proofs.Verdicts.{Told, told}
 use Rattle.lexis.proofs.Lexer.{lex-nil, after, lex-token}
@@ -40,12 +38,12 @@ module _ (text : List ℕ) (c : Cursor) where
   step_end h = rw (le-leb _ _ h)
 
   module _ (h : c.at < length text) (k : ℕ) (is : k ≡ class_of (get_or text c.at 0)) where
-    pub step-spaces : (end : ℕ) → k ≡ 1 → end ≡ c.at + 1 + span_len (passes Spaces) (drop (c.at + 1) text)
+    pub step-spaces : (end : ℕ) → k ≡ 1 → end ≡ c.at + 1 + span_len is_space (drop (c.at + 1) text)
         → Gap (record { at = end; count = c.count }) ≡ step_at text c
     unfolding step_at
     step-spaces end e q = rw (lt-leb _ _ h, ← is, e, q)
 
-    pub step-comment : (end : ℕ) → k ≡ 5 → end ≡ c.at + 1 + span_len (passes Comment) (drop (c.at + 1) text)
+    pub step-comment : (end : ℕ) → k ≡ 5 → end ≡ c.at + 1 + span_len in_comment (drop (c.at + 1) text)
         → Gap (record { at = end; count = c.count }) ≡ step_at text c
     unfolding step_at
     step-comment end e q = rw (lt-leb _ _ h, ← is, e, q)
@@ -98,7 +96,6 @@ pub record Passed (text : List ℕ) (c d : Cursor) : Type 0 where
 
 abbrev pub Says : List ℕ → Cursor → Step → Type 0
 Says text c (Next r d) = Stepped text c r d
-Says text c (Mark d) = Stepped text c (record { kind = 8; start = c.at; end = d.at }) d
 Says text c (Gap d) = Passed text c d
 Says text c End = lex_here text c ≡ accepted []
 Says text c (Fault code p) = (lex_here text c ≡ refused code p) × (p ≤ length text)
@@ -146,15 +143,15 @@ lexeme-says text c start (L.Fault code) h k e z t = (e, k)
 lexeme-says text c start (L.Token k n) h l e z t = token-says text c start k n h l e z t (ltb c.count max_tokens) refl
 
 module _ (text : List ℕ) (c : Cursor) where
-  gap-says : (run : Run) → c.at < length text
+  gap-says : (test : ℕ → Bool) → c.at < length text
       →
-      ((e : ℕ) → e ≡ c.at + 1 + span_len (passes run) (drop (c.at + 1) text)
+      ((e : ℕ) → e ≡ c.at + 1 + span_len test (drop (c.at + 1) text)
       → lex_from 0 c.count c.at (drop c.at text) ≡ lex_from 0 c.count e (drop e text))
-      → Says text c (gap_to run text c)
-  gap-says run h p = record {
-    lexes = p (c.at + 1 + span_len (passes run) (drop (c.at + 1) text)) refl;
+      → Says text c (gap_to test text c)
+  gap-says test h p = record {
+    lexes = p (c.at + 1 + span_len test (drop (c.at + 1) text)) refl;
     moves = omega arith;
-    within = span-in (passes run) text (c.at + 1) (omega arith);
+    within = span-in test text (c.at + 1) (omega arith);
     counts = refl;
   }
 
@@ -168,12 +165,12 @@ module _ (text : List ℕ) (c : Cursor) where
       (sized (drop c.at text)) (told (drop c.at text))
 
   pick-says : (a b d : Bool) → leb (length text) c.at ≡ a → eqb (class_of (get_or text c.at 0)) 1 ≡ b → eqb (class_of (get_or text c.at 0)) 5 ≡ d
-      → Says text c (cond a End (cond b (gap_to Spaces text c) (cond d (gap_to Comment text c) (step_to (lexeme (drop c.at text)) c.at c.count))))
+      → Says text c (cond a End (cond b (gap_to is_space text c) (cond d (gap_to in_comment text c) (step_to (lexeme (drop c.at text)) c.at c.count))))
   pick-says true b d e f g = ap (lex_from 0 c.count c.at) (drop_of_length-le text (leb-true (length text) c.at e)) ∙ lex-nil 0 c.count c.at
   pick-says false true d e f g =
-      let h = leb-false (length text) c.at e in gap-says Spaces h (λ e q. pass-spaces text c.at c.count e h (eqb-true _ 1 f) q)
+      let h = leb-false (length text) c.at e in gap-says is_space h (λ e q. pass-spaces text c.at c.count e h (eqb-true _ 1 f) q)
   pick-says false false true e f g =
-      let h = leb-false (length text) c.at e in gap-says Comment h (λ e q. pass-comment text c.at c.count e h (eqb-true _ 5 g) q)
+      let h = leb-false (length text) c.at e in gap-says in_comment h (λ e q. pass-comment text c.at c.count e h (eqb-true _ 5 g) q)
   pick-says false false false e f g = token-step-says (leb-false (length text) c.at e) (eqb-false _ 1 f) (eqb-false _ 5 g)
 
   pub step-says : Says text c (step_at text c)

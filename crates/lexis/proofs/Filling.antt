@@ -1,6 +1,6 @@
 -- A lent table that is filled from a work area, record by record: what the loop keeps (`Filling`), at the first turn, after a turn and at
 -- the end. Relies on `Lines` (a token holds no byte 10) and `Theorems` (tokens stand in their places).
-use mathlib.Core.Path.{◌≡◌, refl, sym, ap, ◌∙◌, subst}
+use mathlib.Core.Path.{◌≡◌, refl, sym, ap, ◌∙◌, subst, subst₂}
 use mathlib.Core.List.{List, [], ◌∷◌}
 use Prim.Native.Nat.{ℕ, suc, ◌+◌, ◌-◌, ◌*◌, ◌<◌, ◌≤◌}
 use native.Mathlib.Nat.{add-zero}
@@ -139,3 +139,12 @@ module _ {text work table₀ : List ℕ} {n end line from to : ℕ} {table : Lis
       go : (ts : List Token) → f.rest ≡ ts → table ≡ recorded text table₀ (lex text)
       go [] e = ap (λ (xs : List Token). sets table (f.place * token_words) (token_records text xs)) (sym e) ∙ f.final
       go (t ∷ us) e = absurd (omega (arith, h, f.left, f.from_is, ap length e))
+
+-- the places of the next turn
+pub turned : {text work table₀ : List ℕ} {n end line : ℕ} (i : ℕ) {table : List ℕ}
+    → Filling text work table₀ n end line (i * record_words + record_words) (i * token_words + token_words) table
+    → Filling text work table₀ n end line ((i + 1) * record_words) ((i + 1) * token_words) table
+turned {text} {work} {table₀} {n} {end} {line} i {table} f =
+    let three : i * record_words + record_words ≡ (i + 1) * record_words = omega arith in
+    let four : i * token_words + token_words ≡ (i + 1) * token_words = omega arith in
+    subst₂ (λ (from to : ℕ). Filling text work table₀ n end line from to table) three four f

@@ -12,8 +12,8 @@ use Rattle.lexis.specs.Sizes.{max_name, max_string, max_number}
 use Rattle.lexis.specs.Bytes.{class_of, is_digit, is_name_part, is_content, span_len}
 use Rattle.lexis.specs.Number.{digits, parts_of, parts_len, sticks, in_range}
 use Rattle.lexis.specs.Lexeme.{number_lexeme, word_lexeme, string_lexeme, is_pair, is_arrow, mark_lexeme, lexeme}
-use Rattle.lexis.specs.declared.token.Lexeme.{Lexeme}
-use Rattle.lexis.specs.declared.token.Lexeme.TheVariants.{Token, Fault}
+use Rattle.lexis.specs.Lexeme.{Lexeme}
+use Rattle.lexis.specs.Lexeme.{Token, Fault}
 use Rattle.lexis.proofs.Positions.{span-le}
 use Rattle.lexis.proofs.Shapes.{parts-le}
 

@@ -11,8 +11,8 @@ use lib.Seq.{drop-cons}
 use borrow.Author.Tests.{eq-eqb, ne_eqb}
 use Rattle.lexis.specs.Bytes.{class_of}
 use Rattle.lexis.specs.Lexeme.{number_lexeme, word_lexeme, string_lexeme, mark_lexeme, lexeme}
-use Rattle.lexis.specs.declared.token.Lexeme.{Lexeme}
-use Rattle.lexis.specs.declared.token.Lexeme.TheVariants.{Token}
+use Rattle.lexis.specs.Lexeme.{Lexeme}
+use Rattle.lexis.specs.Lexeme.{Token}
 use Rattle.lexis.proofs.Positions.{front}
 use Rattle.lexis.proofs.Marks.{mark-alone, mark-equal}
 

@@ -11,8 +11,8 @@ use Rattle.lexis.specs.Sizes.{max_tokens}
 use Rattle.lexis.specs.Bytes.{class_of, gap_from, gap_len}
 use Rattle.lexis.specs.Lexeme.{lexeme}
 use Rattle.lexis.specs.Lexer.{Lexed, accepted, refused, prepend, admit, lex_from}
-use Rattle.lexis.specs.declared.token.Lexeme.{Lexeme}
-use Rattle.lexis.specs.declared.token.Lexeme.TheVariants as L
+use Rattle.lexis.specs.Lexeme.{Lexeme}
+use Rattle.lexis.specs.Lexeme as L
 use Rattle.lexis.proofs.Lengths.{Sized, sized}
 
 pub lex-nil : (k n at : ℕ) → lex_from k n at [] ≡ accepted []

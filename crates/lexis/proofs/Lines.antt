@@ -16,8 +16,8 @@ use Rattle.lexis.specs.Bytes.{class_of, is_digit, is_name_part, is_content, span
 use Rattle.lexis.specs.Number.{digits, led, frac_len, sign_len, is_e, exp_len, parts_of, parts_len, sticks, in_range}
 use Rattle.lexis.specs.Lexeme.{number_lexeme, word_lexeme, string_lexeme, takes_equal, is_pair, is_arrow, mark_lexeme, lexeme}
 use Rattle.lexis.specs.Line.{line_feeds, line_of, NoFeed}
-use Rattle.lexis.specs.declared.token.Lexeme.{Lexeme}
-use Rattle.lexis.specs.declared.token.Lexeme.TheVariants.{Token, Fault}
+use Rattle.lexis.specs.Lexeme.{Lexeme}
+use Rattle.lexis.specs.Lexeme.{Token, Fault}
 use Rattle.lexis.proofs.Lengths.{by_cases, another-class, pair-next, arrow-next}
 
 -- ---- two parts

@@ -7,7 +7,7 @@ use lib.Dec.{eqb}
 use borrow.Author.Tests.{eq-eqb, ne_eqb}
 use Rattle.lexis.specs.Bytes.{class_of}
 use Rattle.lexis.specs.Lexeme.{takes_equal, is_pair, is_arrow, mark_lexeme}
-use Rattle.lexis.specs.declared.token.Lexeme.TheVariants.{Token, Fault}
+use Rattle.lexis.specs.Lexeme.{Token, Fault}
 
 -- only = and operators take an equal sign
 takes-no : (a : ℕ) → (class_of a ≡ 6 → ⊥) → (a ≡ 61 → ⊥) → takes_equal a ≡ false

@@ -13,9 +13,9 @@ use Rattle.lexis.specs.Answer.{counted_after}
 use Rattle.lexis.specs.Work.{Recorded, Room, area_words, record_at, marked_at}
 use Rattle.lexis.specs.Steps.{plainly, step_at}
 use Rattle.lexis.specs.declared.cursor.Cursor.{Cursor}
-use Rattle.lexis.specs.declared.cursor.Record.{Record}
+use Rattle.lexis.specs.Steps.{Record}
 use Rattle.lexis.specs.declared.cursor.Step.{Step}
-use Rattle.lexis.specs.declared.Counted.TheVariants.{Tokens, Fault}
+use Rattle.lexis.specs.Answer.{Tokens, Fault}
 use Rattle.lexis.proofs.Theorems.{few}
 use Rattle.lexis.proofs.Laid.{lay_one, laid, laid-is, marked-length, area-records, area-marks}
 use Rattle.lexis.proofs.Terminals.{mark-is}

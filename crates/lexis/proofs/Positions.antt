@@ -13,7 +13,7 @@ use Rattle.lexis.specs.Sizes.{max_name, max_string}
 use Rattle.lexis.specs.Bytes.{is_name_part, is_content, span_len, IsRun}
 use Rattle.lexis.specs.Words.{kind_of_word}
 use Rattle.lexis.specs.Lexeme.{word_lexeme, string_lexeme}
-use Rattle.lexis.specs.declared.token.Lexeme.TheVariants.{Token, Fault}
+use Rattle.lexis.specs.Lexeme.{Token, Fault}
 
 span-le-cons : (b : Bool) (m n : ℕ) → m ≤ n → cond b (suc m) 0 ≤ suc n
 span-le-cons true m n h = suc-le-suc h

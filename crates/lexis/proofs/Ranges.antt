@@ -22,8 +22,8 @@ use Rattle.lexis.specs.Shapes.{small_written, is_short}
 use Rattle.lexis.specs.Push.{no_digits, push_all}
 use Rattle.lexis.specs.declared.number.Parts.{Parts}
 use Rattle.lexis.specs.declared.mantissa.Mantissa.{Mantissa}
-use Rattle.lexis.specs.declared.number.Reduction.{Reduction}
-use Rattle.lexis.specs.declared.number.Reduction.TheVariants.{Number, OutOfRange}
+use Rattle.lexis.specs.declared.number.Number.{Number}
+use Rattle.std.specs.Prelude.{Option, Some, None, is_some}
 use Rattle.lexis.proofs.Shapes.{parts-le}
 use Rattle.lexis.proofs.Signs.{near-small, cond_small}
 use Rattle.lexis.proofs.Caps.{all-bounded}
@@ -94,6 +94,10 @@ digits_are s =
 
 -- ---- the reduction
 
+-- a number reduced to this mantissa and exponent
+abbrev pub reduced : ℕ → ℤ → Option Number
+reduced m e = Some (record { mantissa = m; exponent = e })
+
 pub zeros-small : (s : List ℕ) (p : Parts) (m : Mantissa) → m ≡ push_all no_digits (digits_of s p) → p.whole + p.frac + p.exp ≤ max_number → m.zeros ≤ max_number
 zeros-small s p m e h =
     let ds = digits_of s p in
@@ -132,7 +136,7 @@ module _ (s : List ℕ) (p : Parts) (is : p ≡ parts_of s) (m : Mantissa) (read
       rw (ne_eqb _ 0 (value_pos n), st)
 
   module _ (w : ℕ) (written : w ≡ min (written_of s p) written_end) where
-    pub out_written : max_written < w → OutOfRange ≡ reduction_of s p
+    pub out_written : max_written < w → None ≡ reduction_of s p
     unfolding reduction_of in_range
     out_written h = rw (lt-leb (written_of s p) max_written (omega arith))
 
@@ -143,11 +147,11 @@ module _ (s : List ℕ) (p : Parts) (is : p ≡ parts_of s) (m : Mantissa) (read
       in-written : leb (written_of s p) max_written ≡ true
       in-written = le-leb (written_of s p) max_written (omega arith)
 
-      pub number-zero : m.value ≡ 0 → Number 0 (pos 0) ≡ reduction_of s p
+      pub number-zero : m.value ≡ 0 → reduced 0 (pos 0) ≡ reduction_of s p
       unfolding reduction_of in_range is_small is_near
       number-zero e = rw (in-written, reduced-zero e)
 
-      pub out-mantissa : mantissa_end ≤ m.value → OutOfRange ≡ reduction_of s p
+      pub out-mantissa : mantissa_end ≤ m.value → None ≡ reduction_of s p
       unfolding reduction_of in_range is_small
       out-mantissa h =
           let n : (m.value ≡ 0 → ⊥) = λ e. omega arith in
@@ -158,29 +162,25 @@ module _ (s : List ℕ) (p : Parts) (is : p ≡ parts_of s) (m : Mantissa) (read
         mantissa-is : holds.mantissa ≡ m.value
         mantissa-is = omega (arith, holds.value)
 
-        pub out-exponent : is_near e ≡ false → OutOfRange ≡ reduction_of s p
+        pub out-exponent : is_near e ≡ false → None ≡ reduction_of s p
         unfolding reduction_of in_range is_small
         out-exponent t = rw (in-written, reduced-some n, mantissa-is, same-written, ← exponent, lt-ltb _ _ small, t)
 
-        pub number-good : is_near e ≡ true → Number m.value e ≡ reduction_of s p
+        pub number-good : is_near e ≡ true → reduced m.value e ≡ reduction_of s p
         unfolding reduction_of in_range is_small
         number-good t = rw (in-written, reduced-some n, mantissa-is, same-written, ← exponent, lt-ltb _ _ small, t)
 
-pub in-range-yes : (s : List ℕ) (p : Parts) (r : Reduction) (m : ℕ) (e : ℤ) → r ≡ reduction_of s p → r ≡ Number m e → true ≡ in_range s p
+-- a number has a reduction where it is in range
+pub in-range-some : (s : List ℕ) (p : Parts) → is_some (reduction_of s p) ≡ in_range s p
 unfolding reduction_of
-in-range-yes s p r m e q f = go (in_range s p) refl (sym f ∙ q)
+in-range-some s p = go (in_range s p)
   where
-    go : (b : Bool) → in_range s p ≡ b → Number m e ≡ cond b (Number (reduced_of s p).mantissa (reduced_of s p).exponent) OutOfRange → true ≡ b
-    go true t z = refl
-    go false t z = let z' : ◌≡◌ {A = ℕ} 0 1 = cc in absurd (omega arith)
+    go : (b : Bool) → is_some (cond b (reduced (reduced_of s p).mantissa (reduced_of s p).exponent) None) ≡ b
+    go true = refl
+    go false = refl
 
-pub in-range-no : (s : List ℕ) (p : Parts) (r : Reduction) → r ≡ reduction_of s p → r ≡ OutOfRange → false ≡ in_range s p
-unfolding reduction_of
-in-range-no s p r q f = go (in_range s p) (sym f ∙ q)
-  where
-    go : (b : Bool) → OutOfRange ≡ cond b (Number (reduced_of s p).mantissa (reduced_of s p).exponent) OutOfRange → false ≡ b
-    go false z = refl
-    go true z = let z' : ◌≡◌ {A = ℕ} 0 1 = cc in absurd (omega arith)
+in-range-yes : (s : List ℕ) (p : Parts) (m : ℕ) (e : ℤ) → reduced m e ≡ reduction_of s p → true ≡ in_range s p
+in-range-yes s p m e q = ap is_some q ∙ in-range-some s p
 
 -- ---- a short number
 
@@ -234,12 +234,12 @@ module _ (s : List ℕ) (p : Parts) (is : p ≡ parts_of s) (few : p.whole + p.f
       where
         go : (b : Bool) → eqb (push_all no_digits (digits_of s p)).value 0 ≡ b → true ≡ in_range s p
         go true t =
-            in-range-yes s p (Number 0 (pos 0)) 0 (pos 0)
-            (number-zero s p is (push_all no_digits (digits_of s p)) refl (written_of s p) capped-written (omega arith) (eqb-true _ 0 t)) refl
+            in-range-yes s p 0 (pos 0)
+            (number-zero s p is (push_all no_digits (digits_of s p)) refl (written_of s p) capped-written (omega arith) (eqb-true _ 0 t))
         go false t =
-            in-range-yes s p (Number (push_all no_digits (digits_of s p)).value short-exponent) (push_all no_digits (digits_of s p)).value short-exponent
+            in-range-yes s p (push_all no_digits (digits_of s p)).value short-exponent
             (number-good s p is (push_all no_digits (digits_of s p)) refl (written_of s p) capped-written (omega arith) (eqb-false _ 0 t)
-            short-small short-exponent refl short-near) refl
+            short-small short-exponent refl short-near)
 
 no-exponent : (s : List ℕ) (p : Parts) → p.exp ≡ 0 → written_of s p ≡ 0
 unfolding written_of

@@ -7,7 +7,7 @@ use Prim.Native.Nat.{ℕ, zero, suc, ◌+◌, ◌-◌, ◌≤◌, zero-le, suc-l
 use native.Mathlib.Nat.{sub-zero, le_refl}
 use native.Mathlib.Omega.{arith}
 use lib.Dec.{eqb, leb}
-use lib.ListN.{length, take, drop, get_or, length-drop, length-take}
+use lib.ListN.{length, take, drop, get_or, length-drop}
 use lib.Seq.{drop-drop, get_or-drop}
 use borrow.Author.Tests.{eq-eqb, ne_eqb}
 use Rattle.lexis.specs.Sizes.{max_number}
@@ -15,10 +15,9 @@ use Rattle.lexis.specs.Bytes.{class_of, is_digit, span_len}
 use Rattle.lexis.specs.Number.{digits, led, frac_len, sign_len, is_e, exp_len, parts_of, parts_len, sticks, in_range}
 use Rattle.lexis.specs.Lexeme.{number_lexeme}
 use Rattle.lexis.specs.Shapes.{shape_of}
-use Rattle.lexis.specs.declared.number.Shape.{Shape}
-use Rattle.lexis.specs.declared.number.Shape.TheVariants.{Good, Stuck}
+use Rattle.std.specs.Prelude.{Option, Some, None}
 use Rattle.lexis.specs.declared.number.Parts.{Parts}
-use Rattle.lexis.specs.declared.token.Lexeme.TheVariants.{Token, Fault}
+use Rattle.lexis.specs.Lexeme.{Token, Fault}
 use Rattle.lexis.proofs.Positions.{front, span-le}
 
 led-some : (l d : ℕ) → (d ≡ 0 → ⊥) → led l d ≡ l + d
@@ -177,10 +176,6 @@ module _ (s : List ℕ) (at : ℕ) where
   pub exp_in : (x : ℕ) → x ≡ exp_len (drop at s) → at ≤ length s → at + x ≤ length s
   exp_in x e h = omega (arith, exp-le (drop at s), length-drop at s)
 
-  -- the part of the text that is handed on as the number's bytes
-  pub part-short : (n : ℕ) → n ≤ max_number → length (take (at + n - at) (drop at s)) ≤ max_number
-  part-short n h = omega (arith, length-take (at + n - at) (drop at s))
-
 -- the parts of the number at the front of a text
 abbrev parts-with : ℕ → ℕ → ℕ → Parts
 parts-with w f x = record { whole = w; frac = f; exp = x }
@@ -193,39 +188,39 @@ parts-front s n f x e ef ex = ap (λ (a : ℕ). parts-with a f x) (sym (sub-zero
 
 module _ (s : List ℕ) (at end : ℕ) (run : end ≡ at + span_len is_digit (drop at s)) where
   shape-here : (f x : ℕ) (b : Bool) → f ≡ frac_len (drop end s) → x ≡ exp_len (drop (end + f) s) → sticks (get_or s (end + f + x) 0) ≡ b
-      → shape_of (drop at s) ≡ cond b Stuck (Good (record { whole = end - at; frac = f; exp = x }))
+      → shape_of (drop at s) ≡ cond b None (Some (record { whole = end - at; frac = f; exp = x }))
   unfolding shape_of
   shape-here f x b ef ex t =
       let p : record { whole = end - at; frac = f; exp = x } ≡ parts_of (drop at s) = parts_are s at end f x run ef ex in
       let q : at + (end - at + f + x) ≡ end + f + x = omega arith in
       rw (← p, get_or-drop at s (end - at + f + x) 0, q, t)
 
-  pub shape-whole : sticks (get_or s end 0) ≡ false → Good (record { whole = end - at; frac = 0; exp = 0 }) ≡ shape_of (drop at s)
+  pub shape-whole : sticks (get_or s end 0) ≡ false → Some (record { whole = end - at; frac = 0; exp = 0 }) ≡ shape_of (drop at s)
   shape-whole t =
       let e : end + 0 ≡ end = omega arith in
       let g : end + 0 + 0 ≡ end = omega arith in
       sym (shape-here 0 0 false (free-frac s end t) (rw e (free-exp s end t)) (rw g t))
 
   pub shape-frac : (f : ℕ) → f ≡ frac_len (drop end s) → sticks (get_or s (end + f) 0) ≡ false
-      → Good (record { whole = end - at; frac = f; exp = 0 }) ≡ shape_of (drop at s)
+      → Some (record { whole = end - at; frac = f; exp = 0 }) ≡ shape_of (drop at s)
   shape-frac f ef t =
       let g : end + f + 0 ≡ end + f = omega arith in
       sym (shape-here f 0 false ef (free-exp s (end + f) t) (rw g t))
 
   pub shape-exp : (f x : ℕ) → f ≡ frac_len (drop end s) → x ≡ exp_len (drop (end + f) s) → sticks (get_or s (end + f + x) 0) ≡ false
-      → Good (record { whole = end - at; frac = f; exp = x }) ≡ shape_of (drop at s)
+      → Some (record { whole = end - at; frac = f; exp = x }) ≡ shape_of (drop at s)
   shape-exp f x ef ex t = sym (shape-here f x false ef ex t)
 
-  pub shape-stuck : (f x : ℕ) → f ≡ frac_len (drop end s) → x ≡ exp_len (drop (end + f) s) → sticks (get_or s (end + f + x) 0) ≡ true → Stuck ≡ shape_of (drop at s)
+  pub shape-stuck : (f x : ℕ) → f ≡ frac_len (drop end s) → x ≡ exp_len (drop (end + f) s) → sticks (get_or s (end + f + x) 0) ≡ true → None ≡ shape_of (drop at s)
   shape-stuck f x ef ex t = sym (shape-here f x true ef ex t)
 
 -- ---- what a shape says
 
-pub is_stuck : (s : List ℕ) (at : ℕ) (r : Shape) → r ≡ shape_of (drop at s) → r ≡ Stuck → Fault 4 ≡ number_lexeme (drop at s)
+pub is_stuck : (s : List ℕ) (at : ℕ) (r : Option Parts) → r ≡ shape_of (drop at s) → r ≡ None → Fault 4 ≡ number_lexeme (drop at s)
 unfolding shape_of
 is_stuck s at r e q = go (sticks (get_or (drop at s) (parts_len (parts_of (drop at s))) 0)) refl (sym q ∙ e)
   where
-    go : (b : Bool) → sticks (get_or (drop at s) (parts_len (parts_of (drop at s))) 0) ≡ b → Stuck ≡ cond b Stuck (Good (parts_of (drop at s)))
+    go : (b : Bool) → sticks (get_or (drop at s) (parts_len (parts_of (drop at s))) 0) ≡ b → None ≡ cond b None (Some (parts_of (drop at s)))
         → Fault 4 ≡ number_lexeme (drop at s)
     go true t z = number-sticks s at (parts_of (drop at s)) refl (ap sticks (sym (get_or-drop at s (parts_len (parts_of (drop at s))) 0)) ∙ t)
     go false t z = let z' : ◌≡◌ {A = ℕ} 0 1 = cc in absurd (omega arith)
@@ -234,11 +229,11 @@ pub record Shaped (s : List ℕ) (at : ℕ) (p : Parts) : Type 0 where
   pub is : p ≡ parts_of (drop at s)
   pub free : sticks (get_or s (at + parts_len p) 0) ≡ false
 
-pub is-good : (s : List ℕ) (at : ℕ) (r : Shape) (p : Parts) → r ≡ shape_of (drop at s) → r ≡ Good p → Shaped s at p
+pub is-good : (s : List ℕ) (at : ℕ) (r : Option Parts) (p : Parts) → r ≡ shape_of (drop at s) → r ≡ Some p → Shaped s at p
 unfolding shape_of
 is-good s at r p e q = go (sticks (get_or (drop at s) (parts_len (parts_of (drop at s))) 0)) refl (sym q ∙ e)
   where
-    go : (b : Bool) → sticks (get_or (drop at s) (parts_len (parts_of (drop at s))) 0) ≡ b → Good p ≡ cond b Stuck (Good (parts_of (drop at s))) → Shaped s at p
+    go : (b : Bool) → sticks (get_or (drop at s) (parts_len (parts_of (drop at s))) 0) ≡ b → Some p ≡ cond b None (Some (parts_of (drop at s))) → Shaped s at p
     go true t z = let z' : ◌≡◌ {A = ℕ} 0 1 = cc in absurd (omega arith)
     go false t z =
         let same : p ≡ parts_of (drop at s) = cc in

@@ -1,8 +1,8 @@
--- The terminal of a token: keywords by their first byte, names and literals by a sum.
+-- The terminal of a token: keywords by their first byte, a syntactic character by its own.
 use mathlib.Core.Path.{◌≡◌, refl, sym, ap, ◌∙◌}
 use mathlib.Core.Bool.{Bool, true, false, cond}
 use mathlib.Core.List.{List, [], ◌∷◌}
-use Prim.Native.Nat.{ℕ, zero, suc, ◌+◌, ◌-◌, ◌/◌, ◌<◌}
+use Prim.Native.Nat.{ℕ, ◌-◌, ◌<◌}
 use native.Mathlib.Nat.{add-zero}
 use native.Mathlib.Omega.{arith}
 use lib.Dec.{eqb}
@@ -10,8 +10,7 @@ use lib.ListN.{take, drop, get_or}
 use lib.Seq.{get_or-take, get_or-drop}
 use borrow.Author.Tests.{ne_eqb, eqb-false}
 use Rattle.spellings.specs.Comparison.{same_bytes}
-use Rattle.lexis.specs.Kind.{IsKind}
-use Rattle.lexis.specs.Symbol.{Terminal, terminals, symbol_in, operator_symbol, symbol_of}
+use Rattle.lexis.specs.Symbol.{Terminal, terminals, symbol_in, symbol_of}
 use Rattle.lexis.proofs.Words.{same-firsts}
 
 -- ---- keywords
@@ -48,8 +47,6 @@ symbol-none w a e t x s l f g v =
     rw (ne_eqb a 116 t, ne_eqb a 101 x, ne_eqb a 115 s, ne_eqb a 108 l, ne_eqb a 102 f, ne_eqb a 103 g, ne_eqb a 118 v) in
     sym (symbol-by w a a e refl ∙ ap (λ (xs : List Terminal). symbol_in xs w) none)
 
--- ---- the other kinds
-
 -- a syntactic character is its first byte
 pub mark-is : (text : List ℕ) (k s e : ℕ) → k ≡ 8 → s < e → get_or text s 0 ≡ symbol_of k (take (e - s) (drop s text))
 unfolding symbol_of
@@ -57,22 +54,3 @@ mark-is text k s e h l =
     let first : get_or (take (e - s) (drop s text)) 0 0 ≡ get_or text s 0 =
     get_or-take (e - s) (drop s text) 0 0 (omega arith) ∙ (get_or-drop s text 0 0 ∙ ap (λ (i : ℕ). get_or text i 0) (add-zero s)) in
     simp h (sym first)
-
--- an operator has the terminal of its spelling
-pub operator-is : (k : ℕ) (w : List ℕ) → k / 2 ≡ 3 → (k ≡ 6 → ⊥) → operator_symbol w ≡ symbol_of k w
-unfolding symbol_of
-operator-is k w h n = let e : k ≡ 7 = omega arith in rw e
-
--- names are 256, numbers 257, strings and truth values 258
-pub sum_is : (k : ℕ) (w : List ℕ) → IsKind k → (k / 2 ≡ 3 → ⊥) → (k ≡ 8 → ⊥) → 256 + k / 2 ≡ symbol_of k w
-unfolding symbol_of
-sum_is zero w i h n = absurd (omega (arith, i.0))
-sum_is (suc zero) w i h n = refl
-sum_is (suc (suc zero)) w i h n = refl
-sum_is (suc (suc (suc zero))) w i h n = refl
-sum_is (suc (suc (suc (suc zero)))) w i h n = refl
-sum_is (suc (suc (suc (suc (suc zero))))) w i h n = refl
-sum_is (suc (suc (suc (suc (suc (suc zero)))))) w i h n = absurd (h refl)
-sum_is (suc (suc (suc (suc (suc (suc (suc zero))))))) w i h n = absurd (h refl)
-sum_is (suc (suc (suc (suc (suc (suc (suc (suc zero)))))))) w i h n = absurd (n refl)
-sum_is (suc (suc (suc (suc (suc (suc (suc (suc (suc k))))))))) w i h n = absurd (omega (arith, i.1))

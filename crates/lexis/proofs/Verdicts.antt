@@ -13,8 +13,8 @@ use Rattle.lexis.specs.Bytes.{class_of, is_name_part, is_content, span_len}
 use Rattle.lexis.specs.Words.{Word, words, kind_in}
 use Rattle.lexis.specs.Number.{parts_of, parts_len, sticks, in_range}
 use Rattle.lexis.specs.Lexeme.{number_lexeme, word_lexeme, string_lexeme, is_pair, is_arrow, mark_lexeme, lexeme}
-use Rattle.lexis.specs.declared.token.Lexeme.{Lexeme}
-use Rattle.lexis.specs.declared.token.Lexeme.TheVariants as L
+use Rattle.lexis.specs.Lexeme.{Lexeme}
+use Rattle.lexis.specs.Lexeme as L
 
 -- a token of one of the eight kinds, or a fault of one of the codes 3 to 7
 abbrev pub Told : Lexeme → Type 0

@@ -3,9 +3,8 @@ use mathlib.Core.Path.{◌≡◌, refl, sym, ap, ◌∙◌}
 use mathlib.Core.Bool.{Bool, true, false, cond}
 use mathlib.Core.List.{List, [], ◌∷◌}
 use Prim.Native.Nat.{ℕ}
-use native.Mathlib.Omega.{arith}
 use lib.Dec.{eqb}
-use lib.ListN.{length, get_or}
+use lib.ListN.{get_or}
 use borrow.Author.Tests.{ne_eqb, eqb-false}
 use Rattle.spellings.specs.Comparison.{same_bytes}
 use Rattle.lexis.specs.Words.{Word, words, kind_in}
@@ -42,17 +41,11 @@ pub kind-by : (w : List ℕ) (f : ℕ) → get_or w 0 0 ≡ f → kind_in words 
 kind-by w f e = kind-begun w words ∙ ap (λ (a : ℕ). kind_in (begun a words) w) e
 
 -- no word has another first byte than these
-pub none-else : (w : List ℕ) → (get_or w 0 0 ≡ 116 → ⊥) → (get_or w 0 0 ≡ 102 → ⊥) → (get_or w 0 0 ≡ 103 → ⊥) → (get_or w 0 0 ≡ 101 → ⊥)
-    → (get_or w 0 0 ≡ 115 → ⊥) → (get_or w 0 0 ≡ 108 → ⊥) → (get_or w 0 0 ≡ 114 → ⊥) → (get_or w 0 0 ≡ 105 → ⊥) → (get_or w 0 0 ≡ 118 → ⊥)
-    → 1 ≡ kind_in words w
+pub none-else : (w : List ℕ) (a : ℕ) → a ≡ get_or w 0 0 → (a ≡ 116 → ⊥) → (a ≡ 102 → ⊥) → (a ≡ 103 → ⊥) → (a ≡ 101 → ⊥) → (a ≡ 115 → ⊥)
+    → (a ≡ 108 → ⊥) → (a ≡ 114 → ⊥) → (a ≡ 105 → ⊥) → (a ≡ 118 → ⊥) → 1 ≡ kind_in words w
 unfolding begun keep words kind_in
-none-else w n116 n102 n103 n101 n115 n108 n114 n105 n118 =
-    let none : begun (get_or w 0 0) words ≡ [] =
+none-else w a e n116 n102 n103 n101 n115 n108 n114 n105 n118 =
+    let none : begun a words ≡ [] =
     rw (ne_eqb _ 116 n116, ne_eqb _ 102 n102, ne_eqb _ 103 n103, ne_eqb _ 101 n101, ne_eqb _ 115 n115)
     (rw (ne_eqb _ 108 n108, ne_eqb _ 114 n114, ne_eqb _ 105 n105, ne_eqb _ 118 n118)) in
-    sym (kind-begun w words ∙ ap (λ (l : List Word). kind_in l w) none)
-
-pub kind-empty : (w : List ℕ) → length w ≡ 0 → 1 ≡ kind_in words w
-unfolding kind_in words same_bytes
-kind-empty [] e = refl
-kind-empty (x ∷ w) e = absurd (omega arith)
+    sym (kind-by w a (sym e) ∙ ap (λ (l : List Word). kind_in l w) none)

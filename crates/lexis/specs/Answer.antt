@@ -1,14 +1,14 @@
--- What `tokens` answers, and every word of the table afterwards. Relies on `Sizes` and `Code` for the numbers, on `Lexer` for the tokens and
+-- What `tokens` answers, and every word of the table afterwards. Relies on `Sizes`, `Code` and `Refusal` for the numbers, on `Lexer` for the tokens and
 -- `Line` for their lines.
-use Rattle.std.specs.Prelude.{ℕ, ◌+◌, ◌*◌, cond, List, [], ◌∷◌, leb, length, get_or}
+use Rattle.std.specs.Prelude.{ℕ, ◌+◌, ◌*◌, cond, List, [], ◌∷◌, leb, length, get_or, Result, Ok, Err}
 use Rattle.std.proofs.lemmas.List.Edits.{sets}
 use Rattle.lexis.specs.Sizes.{max_text, token_words, table_words}
 use Rattle.lexis.specs.Code as Code
+use Rattle.lexis.specs.Refusal.{refusal_number}
 use Rattle.lexis.specs.Lexer.{Token, Lexed, accepted, refused, lex}
 use Rattle.lexis.specs.Line.{line_of}
 use Rattle.lexis.specs.declared.Answer.{Answer}
-use Rattle.lexis.specs.declared.Counted.{Counted}
-use Rattle.lexis.specs.declared.Counted.TheVariants.{Tokens, Fault}
+use Rattle.lexis.specs.declared.refusal.Fault.{Fault as Found}
 
 -- the four numbers: code, text (0 none, 1 the sole text), position, detail
 abbrev pub answer : ℕ → ℕ → ℕ → ℕ → Answer
@@ -18,6 +18,16 @@ answer c t p d = record { code = c; text = t; position = p; detail = d }
 unfoldable pub token_records : List ℕ → List Token → List ℕ
 token_records text [] = []
 token_records text (t ∷ ts) = t.kind ∷ t.start ∷ (t.start + length t.bytes) ∷ line_of text t.start ∷ token_records text ts
+
+-- what is counted: how many tokens there are, or the code and the position of the first fault
+pub data Counted : Type 0 where
+  Tokens : ℕ → Counted
+  Fault : ℕ → ℕ → Counted
+
+-- what an answer of the code says
+abbrev pub counted_told : Result ℕ Found → Counted
+counted_told (Ok n) = Tokens n
+counted_told (Err f) = Fault (refusal_number f.refusal) f.at
 
 -- how many tokens there are, n more counted in, or the fault
 abbrev pub counted_after : ℕ → Lexed → Counted

@@ -1,5 +1,7 @@
--- The classes of bytes, by name: what a byte can begin. Relies on nothing.
+-- The classes of bytes, by name: what a byte can begin.
 use Rattle.std.specs.Prelude.{ℕ}
+use Rattle.lexis.specs.declared.class.Class.{Class}
+use Rattle.lexis.specs.declared.class.Class.TheVariants.{Other, Space, Digit, Letter, Quote, Comment, Operator, Syntactic, Twice}
 
 -- class 0: a byte that begins nothing
 abbrev pub other : ℕ
@@ -36,3 +38,17 @@ syntactic = 7
 -- class 8: a byte that is an operator only when it stands twice, `&&` and `||`
 abbrev pub twice : ℕ
 twice = 8
+
+-- ---- the classes of the code
+
+-- the number of each
+abbrev pub class_number : Class → ℕ
+class_number Other = other
+class_number Space = space
+class_number Digit = digit
+class_number Letter = letter
+class_number Quote = quote
+class_number Comment = comment
+class_number Operator = operator
+class_number Syntactic = syntactic
+class_number Twice = twice

@@ -1,5 +1,7 @@
 -- The eight kinds of token, by name. A token record holds the number. Relies on nothing.
 use Rattle.std.specs.Prelude.{ℕ, ◌≤◌}
+use Rattle.lexis.specs.declared.kind.Kind.{Kind}
+use Rattle.lexis.specs.declared.kind.Kind.TheVariants.{Name, Whole, Real, String, Truth, Keyword, Operator, Syntactic}
 
 -- kind 1: a name
 abbrev pub name : ℕ
@@ -36,3 +38,16 @@ syntactic = 8
 -- one of the eight
 abbrev pub IsKind : ℕ → Type 0
 IsKind k = (name ≤ k) × (k ≤ syntactic)
+
+-- ---- the kinds of the code
+
+-- the number of each
+abbrev pub kind_number : Kind → ℕ
+kind_number Name = name
+kind_number Whole = whole
+kind_number Real = real
+kind_number String = string
+kind_number Truth = truth
+kind_number Keyword = keyword
+kind_number Operator = operator
+kind_number Syntactic = syntactic

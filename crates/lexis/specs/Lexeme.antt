@@ -1,6 +1,6 @@
--- The token at the front of a text: its kind and length, or the code of its fault. Where several faults meet, the smallest code.
--- Relies on `Sizes`, `Code` and `Kind` for the numbers, on `Bytes`, `Words` and `Number` for what a token is made of.
-use Rattle.std.specs.Prelude.{ℕ, ◌+◌, Bool, cond, ◌&&◌, List, [], ◌∷◌, leb, eqb, take, get_or}
+-- The token at the front of a text. Where several faults meet, the smallest code.
+-- Relies on `Sizes`, `Code`, `Refusal` and `Kind` for the numbers, on `Bytes`, `Words` and `Number` for what a token is made of.
+use Rattle.std.specs.Prelude.{ℕ, ◌+◌, Bool, cond, ◌&&◌, List, [], ◌∷◌, leb, eqb, take, get_or, Result, Ok, Err}
 use Rattle.lexis.specs.Sizes.{max_name, max_string, max_number}
 use Rattle.lexis.specs.Code as Code
 use Rattle.lexis.specs.Kind as Kind
@@ -9,8 +9,20 @@ use Rattle.lexis.specs.Ascii.{ascii, byte}
 use Rattle.lexis.specs.Bytes.{among, class_of, is_name_part, is_content, span_len}
 use Rattle.lexis.specs.Words.{kind_of_word}
 use Rattle.lexis.specs.Number.{parts_of, parts_len, sticks, in_range}
-use Rattle.lexis.specs.declared.token.Lexeme.{Lexeme}
-use Rattle.lexis.specs.declared.token.Lexeme.TheVariants.{Token, Fault}
+use Rattle.lexis.specs.Kind.{kind_number}
+use Rattle.lexis.specs.Refusal.{refusal_number}
+use Rattle.lexis.specs.declared.refusal.Refusal.{Refusal}
+use Rattle.lexis.specs.declared.token.Lexeme.{Lexeme as Found}
+
+-- What stands at the front of a text: a token of this kind and length, or the code of its fault.
+pub data Lexeme : Type 0 where
+  Token : ℕ → ℕ → Lexeme
+  Fault : ℕ → Lexeme
+
+-- what an answer of the code says
+abbrev pub lexeme_told : Result Found Refusal → Lexeme
+lexeme_told (Ok l) = Token (kind_number l.kind) l.len
+lexeme_told (Err r) = Fault (refusal_number r)
 
 -- The longest number at the front of s. A letter, underscore or point right after it: code 4. More than 64 bytes: code 6. Out of range:
 -- code 7. It is whole when it has neither point nor exponent.

@@ -4,9 +4,8 @@ use Rattle.lexis.specs.Sizes.{max_tokens}
 use Rattle.lexis.specs.Code as Code
 use Rattle.lexis.specs.Kind.{IsKind}
 use Rattle.lexis.specs.Bytes.{gap_len}
-use Rattle.lexis.specs.Lexeme.{lexeme}
-use Rattle.lexis.specs.declared.token.Lexeme.{Lexeme}
-use Rattle.lexis.specs.declared.token.Lexeme.TheVariants as L
+use Rattle.lexis.specs.Lexeme.{Lexeme, lexeme}
+use Rattle.lexis.specs.Lexeme as L
 
 -- A token: its kind, the position where it starts, its bytes.
 pub record Token : Type 0 where

@@ -1,11 +1,10 @@
 -- Numbers: the parts of the longest number at the front of a text, the value of its digits, the reduced number, and its range.
 -- Relies on `Sizes` for the bounds and `Bytes` for digits.
-use Rattle.std.specs.Prelude.{◌≡◌, ℕ, zero, suc, pred, ◌+◌, ◌-◌, ◌*◌, ◌/◌, ◌%◌, ◌^◌, Bool, true, false, cond, ◌&&◌, ◌||◌, List, [], ◌∷◌, ◌++◌, leb, ltb, eqb, length, take, drop, get_or, ℤ, pos, negsuc, neg_ℤ}
+use Rattle.std.specs.Prelude.{◌≡◌, ℕ, zero, suc, pred, ◌+◌, ◌-◌, ◌*◌, ◌/◌, ◌%◌, ◌^◌, Bool, true, false, cond, ◌&&◌, ◌||◌, List, [], ◌∷◌, ◌++◌, leb, ltb, eqb, length, take, drop, get_or, ℤ, pos, negsuc, neg_ℤ, Option, Some, None}
 use Rattle.std.proofs.Math.IntN.{sub_ℕ}
 use Rattle.std.specs.Int.Signed.{le_z}
 use Rattle.lexis.specs.declared.number.Parts.{Parts}
-use Rattle.lexis.specs.declared.number.Reduction.{Reduction}
-use Rattle.lexis.specs.declared.number.Reduction.TheVariants.{Number, OutOfRange}
+use Rattle.lexis.specs.declared.number.Number.{Number}
 use Rattle.lexis.specs.Sizes.{max_written, max_exponent, mantissa_end}
 use Rattle.lexis.specs.Ascii.{byte}
 use Rattle.lexis.specs.Bytes.{is_digit, is_letter, span_len}
@@ -130,11 +129,11 @@ unfoldable pub in_range : List ℕ → Parts → Bool
 in_range s p = leb (written_of s p) max_written && is_small (reduced_of s p)
 
 -- the reduced number where it is in range
-unfoldable pub reduction_of : List ℕ → Parts → Reduction
-reduction_of s p = cond (in_range s p) (Number (reduced_of s p).mantissa (reduced_of s p).exponent) OutOfRange
+unfoldable pub reduction_of : List ℕ → Parts → Option Number
+reduction_of s p = cond (in_range s p) (Some (record { mantissa = (reduced_of s p).mantissa; exponent = (reduced_of s p).exponent })) None
 
 -- what the number at the front of w reduces to
-abbrev pub reduction : List ℕ → Reduction
+abbrev pub reduction : List ℕ → Option Number
 reduction w = reduction_of w (parts_of w)
 
 -- ---- what the theorem claims of a reduced number

@@ -1,14 +1,16 @@
--- What each run of the code is made of. Relies on `Bytes`.
-use Rattle.std.specs.Prelude.{ℕ, Bool, not, eqb}
+-- What the runs of the code are made of, beside digits, the parts of a name and the content of a string. Relies on `Bytes`.
+use Rattle.std.specs.Prelude.{ℕ, ◌<◌, ◌≡◌, Bool, not, eqb}
 use Rattle.lexis.specs.Class as Class
-use Rattle.lexis.specs.Bytes.{class_of, is_digit, is_name_part, is_content}
-use Rattle.lexis.specs.declared.span.Run.{Run}
-use Rattle.lexis.specs.declared.span.Run.TheVariants.{Digits, NameParts, Content, Spaces, Comment}
+use Rattle.lexis.specs.Bytes.{class_of}
 
--- a byte belongs to a run
-abbrev pub passes : Run → ℕ → Bool
-passes Digits b = is_digit b
-passes NameParts b = is_name_part b
-passes (Content q) b = is_content q b
-passes Spaces b = eqb (class_of b) Class.space
-passes Comment b = not (eqb b 10)
+-- white space
+abbrev pub is_space : ℕ → Bool
+is_space b = eqb (class_of b) Class.space
+
+-- a byte of a comment
+abbrev pub in_comment : ℕ → Bool
+in_comment b = not (eqb b 10)
+
+-- every call on a byte answers what the test does
+abbrev pub Answers : (ℕ → Bool → Type 0) → (ℕ → Bool) → Type 0
+Answers post test = (b : ℕ) (r : Bool) → b < 256 → post b r → r ≡ test b

@@ -5,9 +5,7 @@ use Rattle.std.proofs.lemmas.List.Edits.{sets}
 use Rattle.lexis.specs.Sizes.{max_tokens, work_words, record_words, first_mark}
 use Rattle.lexis.specs.Lexer.{Token, Lexed, accepted, refused}
 use Rattle.lexis.specs.Symbol.{symbols}
-use Rattle.lexis.specs.Answer.{counted}
-use Rattle.lexis.specs.declared.Counted.{Counted}
-use Rattle.lexis.specs.declared.Counted.TheVariants.{Tokens, Fault}
+use Rattle.lexis.specs.Answer.{Counted, Tokens, Fault, counted}
 
 -- the words of the records of tokens in a work area: kind, start, end after the last byte
 unfoldable pub records : List Token → List ℕ

@@ -1,51 +1,66 @@
 // The class of every byte value, in one table: what a byte can begin.
-ghost use Rattle.std.specs.Prelude.{◌≡◌};
+ghost use Rattle.std.specs.Prelude.{◌≡◌, map};
 ghost use Rattle.lexis.specs.Bytes.{class_of, class_table};
+ghost use Rattle.lexis.specs.Class.{class_number};
 
-#[derive(Clone, Copy)]
-pub struct Class {}
-
-impl Class {
-    pub const SPACE: u8 = 1;
-
-    pub const DIGIT: u8 = 2;
-
+#[derive(Clone, Copy, PartialEq, Eq)]
+pub enum Class {
+    // What begins nothing.
+    Other = 0,
+    Space = 1,
+    Digit = 2,
     // A letter or the underscore.
-    pub const LETTER: u8 = 3;
-
-    pub const QUOTE: u8 = 4;
-
+    Letter = 3,
+    Quote = 4,
     // The sign that begins a comment.
-    pub const COMMENT: u8 = 5;
-
+    Comment = 5,
     // An operator when it stands alone.
-    pub const OPERATOR: u8 = 6;
-
+    Operator = 6,
     // A syntactic character when it stands alone.
-    pub const SYNTACTIC: u8 = 7;
-
+    Syntactic = 7,
     // An operator only when it stands twice.
-    pub const TWICE: u8 = 8;
+    Twice = 8,
 }
 
-// A constant array is built on the stack where it is named: name it once, in the outermost function, and lend it to all that look a
-// byte up.
-pub const CLASSES: [u8; 256] = [
-    0, 0, 0, 0, 0, 0, 0, 0, 0, 1, 1, 1, 1, 1, 0, 0, 0, 0, 0, 0, 0, 0, 0, 0, 0, 0, 0, 0, 0, 0, 0, 0,
-    1, 6, 4, 5, 0, 0, 8, 4, 7, 7, 6, 6, 7, 6, 0, 6, 2, 2, 2, 2, 2, 2, 2, 2, 2, 2, 7, 7, 6, 7, 6, 0,
-    0, 3, 3, 3, 3, 3, 3, 3, 3, 3, 3, 3, 3, 3, 3, 3, 3, 3, 3, 3, 3, 3, 3, 3, 3, 3, 3, 7, 0, 7, 6, 3,
-    0, 3, 3, 3, 3, 3, 3, 3, 3, 3, 3, 3, 3, 3, 3, 3, 3, 3, 3, 3, 3, 3, 3, 3, 3, 3, 3, 7, 8, 7, 0, 0,
-    0, 0, 0, 0, 0, 0, 0, 0, 0, 0, 0, 0, 0, 0, 0, 0, 0, 0, 0, 0, 0, 0, 0, 0, 0, 0, 0, 0, 0, 0, 0, 0,
-    0, 0, 0, 0, 0, 0, 0, 0, 0, 0, 0, 0, 0, 0, 0, 0, 0, 0, 0, 0, 0, 0, 0, 0, 0, 0, 0, 0, 0, 0, 0, 0,
-    0, 0, 0, 0, 0, 0, 0, 0, 0, 0, 0, 0, 0, 0, 0, 0, 0, 0, 0, 0, 0, 0, 0, 0, 0, 0, 0, 0, 0, 0, 0, 0,
-    0, 0, 0, 0, 0, 0, 0, 0, 0, 0, 0, 0, 0, 0, 0, 0, 0, 0, 0, 0, 0, 0, 0, 0, 0, 0, 0, 0, 0, 0, 0, 0,
+use Class::{Comment, Digit, Letter, Operator, Other, Quote, Space, Syntactic, Twice};
+
+// An entry is a byte.
+const _: () = prove!(size_of::<Class>() == 1);
+
+static CLASSES: [Class; 256] = [
+    Other, Other, Other, Other, Other, Other, Other, Other, Other, Space, Space, Space, Space,
+    Space, Other, Other, Other, Other, Other, Other, Other, Other, Other, Other, Other, Other,
+    Other, Other, Other, Other, Other, Other, Space, Operator, Quote, Comment, Other, Other, Twice,
+    Quote, Syntactic, Syntactic, Operator, Operator, Syntactic, Operator, Other, Operator, Digit,
+    Digit, Digit, Digit, Digit, Digit, Digit, Digit, Digit, Digit, Syntactic, Syntactic, Operator,
+    Syntactic, Operator, Other, Other, Letter, Letter, Letter, Letter, Letter, Letter, Letter,
+    Letter, Letter, Letter, Letter, Letter, Letter, Letter, Letter, Letter, Letter, Letter, Letter,
+    Letter, Letter, Letter, Letter, Letter, Letter, Letter, Syntactic, Other, Syntactic, Operator,
+    Letter, Other, Letter, Letter, Letter, Letter, Letter, Letter, Letter, Letter, Letter, Letter,
+    Letter, Letter, Letter, Letter, Letter, Letter, Letter, Letter, Letter, Letter, Letter, Letter,
+    Letter, Letter, Letter, Letter, Syntactic, Twice, Syntactic, Other, Other, Other, Other, Other,
+    Other, Other, Other, Other, Other, Other, Other, Other, Other, Other, Other, Other, Other,
+    Other, Other, Other, Other, Other, Other, Other, Other, Other, Other, Other, Other, Other,
+    Other, Other, Other, Other, Other, Other, Other, Other, Other, Other, Other, Other, Other,
+    Other, Other, Other, Other, Other, Other, Other, Other, Other, Other, Other, Other, Other,
+    Other, Other, Other, Other, Other, Other, Other, Other, Other, Other, Other, Other, Other,
+    Other, Other, Other, Other, Other, Other, Other, Other, Other, Other, Other, Other, Other,
+    Other, Other, Other, Other, Other, Other, Other, Other, Other, Other, Other, Other, Other,
+    Other, Other, Other, Other, Other, Other, Other, Other, Other, Other, Other, Other, Other,
+    Other, Other, Other, Other, Other, Other, Other, Other, Other, Other, Other, Other, Other,
+    Other, Other, Other, Other, Other, Other, Other, Other,
 ];
 
-// The class of a byte, 0 where it begins nothing.
-pub(crate) fn class_of(classes: &[u8; 256], b: u8) -> u8
-    requires { classes.now ≡ class_table }
-    ensures { result ≡ class_of b }
+// The table. Its rule is proved here, over all entries at once.
+fn table() -> &'static [Class; 256]
+    ensures { map class_number result.now ≡ class_table }
 {
-    let i = b as usize;
-    classes[i]
+    &CLASSES
+}
+
+// The class of a byte.
+pub(crate) fn class_of(b: u8) -> Class
+    ensures { class_number result ≡ class_of b }
+{
+    table()[b as usize]
 }

@@ -1,19 +1,21 @@
 // The token cursor.
 ghost use Rattle.std.specs.Prelude.{◌≡◌, true, ◌<◌, length, drop, get_or};
-ghost use Rattle.lexis.specs.Bytes.{class_of, class_table};
+ghost use Rattle.lexis.specs.Bytes.{class_of};
+ghost use Rattle.lexis.specs.Class.{class_number};
 ghost use Rattle.lexis.specs.Lexeme.{lexeme};
 ghost use Rattle.lexis.specs.Steps.{a_mark, plainly, step_at};
 
 use crate::class::{Class, class_of};
-use crate::code::Code;
+use crate::kind::Kind;
 use crate::limits::Limits;
-use crate::span::{Run, long_run_end, run_end};
-use crate::token::{Lexeme, byte_at, token_at};
+use crate::refusal::Refusal;
+use crate::span::{comment_end, space_end};
+use crate::token::{byte_at, token_at};
 
 // A token record: kind, start, end after the last byte.
 #[derive(Clone, Copy)]
 pub struct Record {
-    pub kind: u8,
+    pub kind: Kind,
     pub start: usize,
     pub end: usize,
 }
@@ -26,30 +28,27 @@ pub struct Cursor {
 }
 
 // What a cursor finds: a token, a syntactic character of one byte or a part of a gap, and the next cursor; the end of the text; or a
-// fault.
+// fault. No `Result` around the other four: the lexer takes all five apart in one `match`.
 #[derive(Clone, Copy)]
 pub enum Step {
     Next(Record, Cursor),
     Mark(Cursor),
     Gap(Cursor),
     End,
-    Fault { code: u8, at: usize },
+    Fault { refusal: Refusal, at: usize },
 }
 
-// Whether a syntactic character of one byte stands at `at`, a byte of class k: any but the first = of two. They are the most frequent
+// Whether a syntactic character of one byte stands at `at`, a byte of this class: any but the first = of two. They are the most frequent
 // tokens.
-fn is_mark(text: &[u8], at: usize, k: u8) -> bool
+fn is_mark(text: &[u8], at: usize, class: Class) -> bool
     requires at_in_bounds { at < length text.now }
-    requires k_value { k ≡ class_of (get_or text.now at 0) }
+    requires class_value { class_number class ≡ class_of (get_or text.now at 0) }
     ensures { result ≡ true → a_mark ≡ lexeme (drop at text.now) }
 {
-    if k != Class::SYNTACTIC {
-        return false;
+    match class {
+        Class::Syntactic => text[at] != b'=' || byte_at(text, at + 1) != b'=',
+        _ => false,
     }
-    if text[at] != b'=' {
-        return true;
-    }
-    byte_at(text, at + 1) != b'='
 }
 
 impl Cursor {
@@ -61,8 +60,7 @@ impl Cursor {
     }
 
     // What stands at the cursor, with the next cursor.
-    pub fn next(self, classes: &[u8; 256], text: &[u8]) -> Step
-        requires { classes.now ≡ class_table }
+    pub fn next(self, text: &[u8]) -> Step
         ensures { plainly self result ≡ step_at text.now self }
     {
         let count = self.count;
@@ -70,26 +68,23 @@ impl Cursor {
         if text.len() <= at {
             return Step::End;
         }
-        let k = class_of(classes, text[at]);
-        if k == Class::SPACE {
-            let end = run_end(classes, text, at + 1, Run::Spaces);
-            return Step::Gap(Cursor {
-                at: end,
-                count: count,
-            });
+        let class = class_of(text[at]);
+        match class {
+            Class::Space => {
+                let end = space_end(text, at + 1);
+                return Step::Gap(Cursor { at: end, count });
+            }
+            Class::Comment => {
+                let end = comment_end(text, at + 1);
+                return Step::Gap(Cursor { at: end, count });
+            }
+            _ => {}
         }
-        if k == Class::COMMENT {
-            let end = long_run_end(classes, text, at + 1, Run::Comment);
-            return Step::Gap(Cursor {
-                at: end,
-                count: count,
-            });
-        }
-        if is_mark(text, at, k) {
+        if is_mark(text, at, class) {
             if !Limits::token_fits(count) {
                 return Step::Fault {
-                    code: Code::TOO_MANY,
-                    at: at,
+                    refusal: Refusal::TooManyTokens,
+                    at,
                 };
             }
             return Step::Mark(Cursor {
@@ -97,27 +92,27 @@ impl Cursor {
                 count: count + 1,
             });
         }
-        match token_at(classes, text, at, k) {
-            Lexeme::Fault(code) => Step::Fault { code: code, at: at },
-            Lexeme::Token { kind, len } => {
-                if !Limits::token_fits(count) {
-                    return Step::Fault {
-                        code: Code::TOO_MANY,
-                        at: at,
-                    };
-                }
-                Step::Next(
-                    Record {
-                        kind: kind,
-                        start: at,
-                        end: at + len,
-                    },
-                    Cursor {
-                        at: at + len,
-                        count: count + 1,
-                    },
-                )
-            }
+        let found = match token_at(text, at, class) {
+            Ok(found) => found,
+            Err(refusal) => return Step::Fault { refusal, at },
+        };
+        if !Limits::token_fits(count) {
+            return Step::Fault {
+                refusal: Refusal::TooManyTokens,
+                at,
+            };
         }
+        let end = at + found.len;
+        Step::Next(
+            Record {
+                kind: found.kind,
+                start: at,
+                end,
+            },
+            Cursor {
+                at: end,
+                count: count + 1,
+            },
+        )
     }
 }

@@ -32,8 +32,5 @@ pub fn exponent(w: u32, minus: bool, points: u32, zeros: u32) -> i32
 pub fn is_near(e: i32) -> bool
     ensures { result ≡ is_near e }
 {
-    if e < -Limits::EXPONENT {
-        return false;
-    }
-    e <= Limits::EXPONENT
+    -Limits::EXPONENT <= e && e <= Limits::EXPONENT
 }

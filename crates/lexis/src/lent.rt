@@ -10,19 +10,12 @@ use crate::limits::Limits;
 
 // The line at `to`, where `from` stands on `line`: one more after each byte 10 between them.
 fn line_at(text: &[u8], from: usize, to: usize, line: u32) -> u32
-    requires to_in_bounds { (to ≤ length text.now) × (length text.now ≤ max_text) }
+    requires to_in_bounds { (from ≤ to) × ((to ≤ length text.now) × (length text.now ≤ max_text)) }
     requires line_bound { line ≤ from + 1 }
     ensures { result ≡ line + line_feeds (take (to - from) (drop from text.now)) }
 {
-    let mut there = line;
-    let mut i = from;
-    while i < to {
-        if text[i] == b'\n' {
-            there += 1;
-        }
-        i += 1;
-    }
-    there
+    let feeds = text[from..to].iter().filter(|b| **b == b'\n').count();
+    line + feeds as u32
 }
 
 // The same over a gap, which is mostly empty or one byte.
@@ -58,19 +51,16 @@ pub fn fill(text: &[u8], work: &[u32], table: &mut [u32], n: usize)
     requires held { Held (lex text.now) work.now n }
     ensures { table.new ≡ recorded text.now table.old (lex text.now) }
 {
-    let words = n * Limits::RECORD_WORDS;
     let mut end = 0;
     let mut line = 1;
-    let mut from = 0;
-    let mut to = 0;
-    while from < words {
+    for i in 0..n {
+        let from = i * Limits::RECORD_WORDS;
+        let to = i * Limits::TOKEN_WORDS;
         let start = work[from + 1];
         let last = work[from + 2];
         put_words(&mut *table, to, work[from], start, last);
         line = line_after(text, end, start as usize, line);
         table[to + 3] = line;
         end = last as usize;
-        from += Limits::RECORD_WORDS;
-        to += Limits::TOKEN_WORDS;
     }
 }

@@ -2,7 +2,6 @@
 #![tactic(auto)]
 
 pub mod class;
-pub mod code;
 mod cursor;
 mod exponent;
 pub mod kind;
@@ -10,26 +9,29 @@ mod lent;
 pub mod limits;
 mod mantissa;
 pub mod number;
+mod numeral;
+pub mod refusal;
 mod span;
 pub mod symbol;
 mod token;
 pub mod word;
 
 ghost use Rattle.std.specs.Prelude.{◌≡◌, true, false, ◌+◌, ◌-◌, ◌*◌, ◌<◌, ◌≤◌, min, length, take, drop};
-ghost use Rattle.lexis.specs.Answer.{tokens_answer, tokens_table, counted, answer_of, recorded};
-ghost use Rattle.lexis.specs.Bytes.{class_table};
-ghost use Rattle.lexis.specs.Kind.{IsKind};
+ghost use Rattle.lexis.specs.Answer.{answer, tokens_answer, tokens_table, counted_told, counted, answer_of, recorded};
+ghost use Rattle.lexis.specs.Code as Code;
+ghost use Rattle.lexis.specs.Kind.{kind_number};
 ghost use Rattle.lexis.specs.Lexer.{lex};
+ghost use Rattle.lexis.specs.Refusal.{refusal_number};
 ghost use Rattle.lexis.specs.Sizes.{max_text, max_tokens, record_words, table_words, first_mark};
 ghost use Rattle.lexis.specs.Symbol.{symbol_of};
 ghost use Rattle.lexis.specs.Work.{Recorded, Room, Found, area_words, record_at, marked_at};
 
-use class::CLASSES;
-use code::Code;
 use cursor::{Cursor, Record, Step};
 use kind::Kind;
 use lent::{fill, put_words};
 use limits::Limits;
+use refusal::{Fault, Refusal};
+use std::fmt;
 use symbol::symbol_of;
 
 // The four numbers of an answer.
@@ -42,21 +44,80 @@ pub struct Answer {
     pub detail: u32,
 }
 
-// What the lexer finds: how many tokens there are, or the first fault.
-#[derive(Clone, Copy)]
-pub enum Counted {
-    Tokens(u32),
-    Fault { code: u32, at: u32 },
+impl Answer {
+    // The code of acceptance, which is no refusal.
+    pub const ACCEPTED: u32 = 0;
+
+    // Acceptance, which names no text.
+    #[inline]
+    pub fn accepted(detail: u32) -> Answer
+        ensures { result ≡ answer Code.accepted 0 0 detail }
+    {
+        Answer {
+            code: Answer::ACCEPTED,
+            text: 0,
+            position: 0,
+            detail,
+        }
+    }
+
+    // The refusal of a text; text 0 is none.
+    #[inline]
+    pub fn refused(refusal: Refusal, text: u32, position: u32, detail: u32) -> Answer
+        ensures { result ≡ answer (refusal_number refusal) text position detail }
+    {
+        Answer {
+            code: refusal.number(),
+            text,
+            position,
+            detail,
+        }
+    }
+
+    // What is lent is too short.
+    #[inline]
+    pub fn short_room() -> Answer
+        ensures { result ≡ answer Code.short_room 0 0 0 }
+    {
+        Answer::refused(Refusal::ShortRoom, 0, 0, 0)
+    }
+
+    // This text is too long.
+    #[inline]
+    pub fn long_text(text: u32) -> Answer
+        ensures { result ≡ answer Code.long_text text max_text 0 }
+    {
+        Answer::refused(Refusal::LongText, text, Limits::TEXT as u32, 0)
+    }
 }
 
-// The bytes of a text that takes a small work area, which is cleared in less time.
+// The four numbers, one blank between.
+impl fmt::Display for Answer {
+    fn fmt<W: fmt::Write>(&self, f: &mut fmt::Formatter<W>) -> fmt::Result {
+        write!(
+            f,
+            "{} {} {} {}",
+            self.code, self.text, self.position, self.detail
+        )
+    }
+}
+
+// The bytes of a text that takes a small work area, which is cleared in less time, and the words of that area.
 const LINE: usize = 32;
+
+const LINE_WORDS: usize = LINE * Limits::RECORD_WORDS;
 
 const TINY: usize = 128;
 
+const TINY_WORDS: usize = TINY * Limits::RECORD_WORDS;
+
 const SHORT: usize = 512;
 
+const SHORT_WORDS: usize = SHORT * Limits::RECORD_WORDS;
+
 const MIDDLE: usize = 2048;
+
+const MIDDLE_WORDS: usize = MIDDLE * Limits::RECORD_WORDS;
 
 // The operation: the tokens of a text into a lent table. The work is done in a work area of its own, so that a refusal writes nothing.
 pub fn tokens(text: &[u8], table: &mut [u32]) -> Answer
@@ -64,39 +125,27 @@ pub fn tokens(text: &[u8], table: &mut [u32]) -> Answer
     ensures table_after { table.new ≡ tokens_table text.now table.old }
 {
     if !Limits::table_serves(table.len()) {
-        return Answer {
-            code: Code::SHORT_ROOM,
-            text: 0,
-            position: 0,
-            detail: 0,
-        };
+        return Answer::short_room();
     }
     if !Limits::text_fits(text.len()) {
-        let end = Limits::TEXT as u32;
-        return Answer {
-            code: Code::LONG_TEXT,
-            text: 1,
-            position: end,
-            detail: 0,
-        };
+        return Answer::long_text(1);
     }
-    let classes = CLASSES;
-    tokens_within(&classes, text, table)
+    tokens_within(text, table)
 }
 
 // The records of a text of at most 16384 bytes, written in front of a work area as they are found, and where it is to be `marked` the
 // terminals of the tokens behind them. On a fault the work area holds anything, and is as long as before.
-pub fn lex_into(classes: &[u8; 256], text: &[u8], work: &mut [u32], marked: bool) -> Counted
-    requires classes_value { classes.now ≡ class_table }
+pub fn lex_into(text: &[u8], work: &mut [u32], marked: bool) -> Result<u32, Fault>
     requires text_len_bound { length text.now ≤ max_text }
     requires text_in_bounds { area_words marked (length text.now) ≤ length work.old }
-    ensures value { result ≡ counted (lex text.now) }
+    ensures value { counted_told result ≡ counted (lex text.now) }
     ensures recorded { Recorded marked (lex text.now) work.old work.new }
-    ensures room { Room result (length work.old) }
+    ensures room { Room (counted_told result) (length work.old) }
 {
+    // No `for`: the cursor says where the text ends.
     let mut c = Cursor::new();
     loop {
-        match c.next(classes, text) {
+        match c.next(text) {
             Step::Next(r, d) => {
                 put_record(&mut *work, c.count, r);
                 mark(text, r, &mut *work, c.count, marked);
@@ -105,25 +154,25 @@ pub fn lex_into(classes: &[u8; 256], text: &[u8], work: &mut [u32], marked: bool
             Step::Mark(d) => {
                 let at = c.at;
                 let r = Record {
-                    kind: Kind::SYNTACTIC,
+                    kind: Kind::Syntactic,
                     start: at,
                     end: d.at,
                 };
                 put_record(&mut *work, c.count, r);
-                put_mark(&mut *work, c.count, wide(text[at]), marked);
+                put_mark(&mut *work, c.count, u32::from(text[at]), marked);
                 c = d;
             }
             Step::Gap(d) => {
                 c = d;
             }
             Step::End => {
-                return Counted::Tokens(narrow(c.count));
+                return Ok(c.count as u32);
             }
-            Step::Fault { code, at } => {
-                return Counted::Fault {
-                    code: wide(code),
-                    at: narrow(at),
-                };
+            Step::Fault { refusal, at } => {
+                return Err(Fault {
+                    refusal,
+                    at: at as u32,
+                });
             }
         }
     }
@@ -133,14 +182,14 @@ pub fn lex_into(classes: &[u8; 256], text: &[u8], work: &mut [u32], marked: bool
 fn put_record(work: &mut [u32], i: usize, r: Record)
     requires record_words_in_bounds { i * record_words + 2 < length work.old }
     requires start_le_max_text { (r.start ≤ max_text) × (r.end ≤ max_text) }
-    ensures { work.new ≡ record_at work.old (i * record_words) r.kind r.start r.end }
+    ensures { work.new ≡ record_at work.old (i * record_words) (kind_number r.kind) r.start r.end }
 {
     put_words(
         work,
         i * Limits::RECORD_WORDS,
-        wide(r.kind),
-        narrow(r.start),
-        narrow(r.end),
+        r.kind as u32,
+        r.start as u32,
+        r.end as u32,
     );
 }
 
@@ -157,12 +206,11 @@ fn put_mark(work: &mut [u32], i: usize, s: u32, marked: bool)
 
 // The terminal of the token at place `i` behind the records, where the work area is to be marked.
 fn mark(text: &[u8], r: Record, work: &mut [u32], i: usize, marked: bool)
-    requires kind { IsKind r.kind }
     requires start_lt_end { r.start < r.end }
     requires end_in_bounds { r.end ≤ length text.now }
     requires i_in_bounds { marked ≡ true → first_mark + i < length work.old }
     ensures { work.new ≡ marked_at marked work.old i
-        (symbol_of r.kind (take (r.end - r.start) (drop r.start text.now))) }
+        (symbol_of (kind_number r.kind) (take (r.end - r.start) (drop r.start text.now))) }
 {
     if !marked {
         return;
@@ -171,136 +219,63 @@ fn mark(text: &[u8], r: Record, work: &mut [u32], i: usize, marked: bool)
 }
 
 // The answer of a text within its limit: a work area is cleared when it is made, so a short text gets a short one.
-fn tokens_within(classes: &[u8; 256], text: &[u8], table: &mut [u32]) -> Answer
-    requires classes_value { classes.now ≡ class_table }
+fn tokens_within(text: &[u8], table: &mut [u32]) -> Answer
     requires text_len_bound { length text.now ≤ max_text }
     requires table_words_in_bounds { table_words ≤ length table.old }
     ensures value { result ≡ answer_of (counted (lex text.now)) }
     ensures table_after { table.new ≡ recorded text.now table.old (lex text.now) }
 {
     if text.len() <= LINE {
-        return tokens_line(classes, text, table);
+        return tokens_in::<LINE_WORDS>(text, table);
     }
     if text.len() <= TINY {
-        return tokens_tiny(classes, text, table);
+        return tokens_in::<TINY_WORDS>(text, table);
     }
     if text.len() <= SHORT {
-        return tokens_short(classes, text, table);
+        return tokens_in::<SHORT_WORDS>(text, table);
     }
     if text.len() <= MIDDLE {
-        return tokens_middle(classes, text, table);
+        return tokens_in::<MIDDLE_WORDS>(text, table);
     }
-    tokens_long(classes, text, table)
+    tokens_in::<{ Limits::MARKS }>(text, table)
 }
 
-fn tokens_line(classes: &[u8; 256], text: &[u8], table: &mut [u32]) -> Answer
-    requires classes_value { classes.now ≡ class_table }
-    requires text_len_bound { length text.now ≤ 32 }
-    requires table_words_in_bounds { table_words ≤ length table.old }
-    ensures value { result ≡ answer_of (counted (lex text.now)) }
-    ensures table_after { table.new ≡ recorded text.now table.old (lex text.now) }
-{
-    let mut line = [0u32; LINE * Limits::RECORD_WORDS];
-    let found = lexed(classes, text, &mut line);
-    listed(text, found, &line, table)
-}
-
-fn tokens_tiny(classes: &[u8; 256], text: &[u8], table: &mut [u32]) -> Answer
-    requires classes_value { classes.now ≡ class_table }
-    requires text_len_bound { length text.now ≤ 128 }
-    requires table_words_in_bounds { table_words ≤ length table.old }
-    ensures value { result ≡ answer_of (counted (lex text.now)) }
-    ensures table_after { table.new ≡ recorded text.now table.old (lex text.now) }
-{
-    let mut tiny = [0u32; TINY * Limits::RECORD_WORDS];
-    let found = lexed(classes, text, &mut tiny);
-    listed(text, found, &tiny, table)
-}
-
-fn tokens_short(classes: &[u8; 256], text: &[u8], table: &mut [u32]) -> Answer
-    requires classes_value { classes.now ≡ class_table }
-    requires text_len_bound { length text.now ≤ 512 }
-    requires table_words_in_bounds { table_words ≤ length table.old }
-    ensures value { result ≡ answer_of (counted (lex text.now)) }
-    ensures table_after { table.new ≡ recorded text.now table.old (lex text.now) }
-{
-    let mut short = [0u32; SHORT * Limits::RECORD_WORDS];
-    let found = lexed(classes, text, &mut short);
-    listed(text, found, &short, table)
-}
-
-fn tokens_middle(classes: &[u8; 256], text: &[u8], table: &mut [u32]) -> Answer
-    requires classes_value { classes.now ≡ class_table }
-    requires text_len_bound { length text.now ≤ 2048 }
-    requires table_words_in_bounds { table_words ≤ length table.old }
-    ensures value { result ≡ answer_of (counted (lex text.now)) }
-    ensures table_after { table.new ≡ recorded text.now table.old (lex text.now) }
-{
-    let mut middle = [0u32; MIDDLE * Limits::RECORD_WORDS];
-    let found = lexed(classes, text, &mut middle);
-    listed(text, found, &middle, table)
-}
-
-fn tokens_long(classes: &[u8; 256], text: &[u8], table: &mut [u32]) -> Answer
-    requires classes_value { classes.now ≡ class_table }
+// The same in a work area of so many words.
+fn tokens_in<const WORDS: usize>(text: &[u8], table: &mut [u32]) -> Answer
     requires text_len_bound { length text.now ≤ max_text }
+    requires room { (record_words * min (length text.now) max_tokens ≤ WORDS) × (WORDS ≤ first_mark) }
     requires table_words_in_bounds { table_words ≤ length table.old }
     ensures value { result ≡ answer_of (counted (lex text.now)) }
     ensures table_after { table.new ≡ recorded text.now table.old (lex text.now) }
 {
-    let mut long = [0u32; Limits::MARKS];
-    let found = lexed(classes, text, &mut long);
-    listed(text, found, &long, table)
+    // An array on the stack: no heap, fixed memory.
+    let mut work = [0u32; WORDS];
+    let found = lexed(text, &mut work);
+    listed(text, found, &work, table)
 }
 
 // What the lexer finds, with the records alone in a work area.
-fn lexed(classes: &[u8; 256], text: &[u8], work: &mut [u32]) -> Counted
-    requires classes_value { classes.now ≡ class_table }
+fn lexed(text: &[u8], work: &mut [u32]) -> Result<u32, Fault>
     requires text_len_bound { length text.now ≤ max_text }
     requires max_tokens_in_bounds { record_words * min (length text.now) max_tokens ≤ length work.old }
-    ensures { Found (lex text.now) result work.new }
+    ensures { Found (lex text.now) (counted_told result) work.new }
 {
-    lex_into(classes, text, work, false)
+    lex_into(text, work, false)
 }
 
 // The answer to what the lexer found, and the records with their lines in the table where there is no fault.
-fn listed(text: &[u8], found: Counted, work: &[u32], table: &mut [u32]) -> Answer
+fn listed(text: &[u8], found: Result<u32, Fault>, work: &[u32], table: &mut [u32]) -> Answer
     requires text_len_bound { length text.now ≤ max_text }
-    requires found { Found (lex text.now) found work.now }
+    requires found { Found (lex text.now) (counted_told found) work.now }
     requires table_words_in_bounds { table_words ≤ length table.old }
     ensures value { result ≡ answer_of (counted (lex text.now)) }
     ensures table_after { table.new ≡ recorded text.now table.old (lex text.now) }
 {
     match found {
-        Counted::Tokens(n) => {
+        Ok(n) => {
             fill(text, work, table, n as usize);
-            Answer {
-                code: Code::ACCEPTED,
-                text: 0,
-                position: 0,
-                detail: n,
-            }
+            Answer::accepted(n)
         }
-        Counted::Fault { code, at } => Answer {
-            code: code,
-            text: 1,
-            position: at,
-            detail: 0,
-        },
+        Err(fault) => Answer::refused(fault.refusal, 1, fault.at, 0),
     }
-}
-
-// A code or a kind as a word.
-fn wide(x: u8) -> u32
-    ensures { result ≡ x }
-{
-    x as u32
-}
-
-// A position or a count as a word.
-fn narrow(x: usize) -> u32
-    requires { x ≤ max_text }
-    ensures { result ≡ x }
-{
-    x as u32
 }

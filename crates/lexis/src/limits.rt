@@ -87,7 +87,7 @@ impl Limits {
     // A whole number at extent.
     pub const EXTENT: u64 = 2147483647;
 
-    // Whether n of them are not too many: each test is for one size.
+    // Whether n of them are not too many. A function for each size and no generic one: by a rule of the project each size is tested here, under its name.
     pub fn text_fits(n: usize) -> bool
         ensures { result ≡ leb n max_text }
     {
@@ -125,7 +125,7 @@ impl Limits {
         n < Limits::TOKENS
     }
 
-    // Whether a lent table of n words is long enough.
+    // Whether a lent table of n words is long enough: again a function for each size.
     pub fn table_serves(n: usize) -> bool
         ensures { result ≡ leb table_words n }
     {

@@ -1,7 +1,6 @@
 // The mantissa of a number, read digit by digit.
-ghost use Rattle.std.specs.Prelude.{◌≡◌, ◌+◌, ◌-◌, ◌*◌, ◌^◌, ◌≤◌, min, length, take, drop};
+ghost use Rattle.std.specs.Prelude.{◌≡◌, ◌+◌, ◌≤◌, min, length};
 ghost use Rattle.lexis.specs.Sizes.{max_number, written_end, mantissa_end};
-ghost use Rattle.lexis.specs.Ascii.{byte};
 ghost use Rattle.lexis.specs.Number.{value_from};
 ghost use Rattle.lexis.specs.Push.{push, push_all};
 
@@ -11,42 +10,7 @@ use crate::limits::Limits;
 #[derive(Clone, Copy)]
 pub struct Mantissa {
     pub value: u64,
-    pub zeros: usize,
-}
-
-// The number of a digit.
-fn digit_of(b: u8) -> u64
-    ensures { result ≡ b - byte "0" }
-{
-    if b < b'0' {
-        return 0;
-    }
-    let d = b - b'0';
-    d as u64
-}
-
-// x, at most the cap.
-fn capped(x: u64) -> u64
-    ensures { result ≡ min x mantissa_end }
-{
-    if x < Limits::MANTISSA_END {
-        return x;
-    }
-    Limits::MANTISSA_END
-}
-
-// x times ten to the n, at most the cap.
-fn scaled(x: u64, n: usize) -> u64
-    requires { x ≤ mantissa_end }
-    ensures { result ≡ min (x * 10 ^ n) mantissa_end }
-{
-    let mut v = x;
-    let mut i = 0;
-    while i < n {
-        v = capped(v * 10);
-        i += 1;
-    }
-    v
+    pub zeros: u32,
 }
 
 // One digit more.
@@ -55,84 +19,54 @@ fn pushed(m: Mantissa, b: u8) -> Mantissa
     requires zeros_bound { m.zeros ≤ max_number + max_number }
     ensures { result ≡ push m b }
 {
-    let value = m.value;
-    let zeros = m.zeros;
+    let Mantissa { value, zeros } = m;
     if b == b'0' {
         if value == 0 {
             return m;
         }
         return Mantissa {
-            value: value,
+            value,
             zeros: zeros + 1,
         };
     }
+    let digit = u64::from(b.saturating_sub(b'0'));
     // Without zeros and well below the cap one product is enough.
-    if zeros == 0 {
-        if value < 10000000000000000 {
-            let next = value * 10 + digit_of(b);
-            return Mantissa {
-                value: next,
-                zeros: 0,
-            };
-        }
+    if zeros == 0 && value < 10000000000000000 {
+        return Mantissa {
+            value: value * 10 + digit,
+            zeros: 0,
+        };
     }
-    let v = capped(scaled(value, zeros + 1) + digit_of(b));
-    Mantissa { value: v, zeros: 0 }
+    let scaled = value
+        .saturating_mul(10u64.saturating_pow(zeros + 1))
+        .min(Limits::MANTISSA_END);
+    Mantissa {
+        value: (scaled + digit).min(Limits::MANTISSA_END),
+        zeros: 0,
+    }
 }
 
-// The n digits from `from` on.
-pub fn pushed_all(text: &[u8], from: usize, n: usize, m: Mantissa) -> Mantissa
-    requires n_in_bounds { from + n ≤ length text.now }
-    requires n_le_max_number { n ≤ max_number }
+// These digits after those of m.
+pub fn pushed_all(digits: &[u8], m: Mantissa) -> Mantissa
+    requires few { length digits.now ≤ max_number }
     requires value_le_mantissa_end { m.value ≤ mantissa_end }
     requires zeros_le_max_number { m.zeros ≤ max_number }
-    ensures { result ≡ push_all m (take n (drop from text.now)) }
+    ensures { result ≡ push_all m digits.now }
 {
     let mut a = m;
-    let mut j = 0;
-    while j < n {
-        let at = from + j;
-        a = pushed(a, text[at]);
-        j += 1;
+    for b in digits {
+        a = pushed(a, *b);
     }
     a
 }
 
-// The number that n digits spell, kept below a cap.
-pub fn capped_value(text: &[u8], from: usize, n: usize) -> u32
-    requires { from + n ≤ length text.now }
-    ensures { result ≡ min (value_from 0 (take n (drop from text.now))) written_end }
+// The number that digits spell, kept below a cap.
+pub fn capped_value(digits: &[u8]) -> u32
+    ensures { result ≡ min (value_from 0 digits.now) written_end }
 {
     let mut v = 0;
-    let mut j = 0;
-    while j < n {
-        let at = from + j;
-        v = next_value(v, text[at]);
-        j += 1;
+    for b in digits {
+        v = (v * 10 + u32::from(b.saturating_sub(b'0'))).min(Limits::WRITTEN_END);
     }
     v
-}
-
-// One digit more, below the cap.
-fn next_value(v: u32, b: u8) -> u32
-    requires { v ≤ written_end }
-    ensures { result ≡ min (v * 10 + (b - byte "0")) written_end }
-{
-    let d = small_digit(b);
-    let x = v * 10 + d;
-    if x < Limits::WRITTEN_END {
-        return x;
-    }
-    Limits::WRITTEN_END
-}
-
-// The number of a digit, as a u32.
-fn small_digit(b: u8) -> u32
-    ensures { result ≡ b - byte "0" }
-{
-    if b < b'0' {
-        return 0;
-    }
-    let d = b - b'0';
-    d as u32
 }

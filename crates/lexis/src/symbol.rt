@@ -1,15 +1,15 @@
 // The terminals of the grammar: all that it sees of a token.
-ghost use Rattle.std.specs.Prelude.{◌≡◌, cond, ◌-◌, ◌/◌, ◌<◌, ◌≤◌, length, take, drop};
+ghost use Rattle.std.specs.Prelude.{◌≡◌, cond, ◌-◌, ◌<◌, ◌≤◌, length, take, drop};
 ghost use Rattle.spellings.specs.Comparison.{same_bytes};
-ghost use Rattle.lexis.specs.Kind.{IsKind};
+ghost use Rattle.lexis.specs.Kind.{kind_number};
 ghost use Rattle.lexis.specs.Symbol.{other, keyword_symbol, symbol_of};
 
 use crate::kind::Kind;
 use crate::token::byte_at;
-use crate::wide;
 use spellings::same;
 
-// A syntactic character is numbered by its first byte, any other terminal by a number that is no byte.
+// A syntactic character is numbered by its first byte, any other terminal by a number that is no byte. Numbers and no enum: they lie as words
+// in the lent work area, and are read back from it word for word.
 #[derive(Clone, Copy)]
 pub struct Symbol {}
 
@@ -68,7 +68,7 @@ impl Symbol {
     pub const END: u32 = 268;
 }
 
-// The terminal s where w is spelt so; else none of the flat syntax.
+// The terminal s where w is spelt so; else none of the flat syntax. Beside `kind_if`, which see.
 fn symbol_if(w: &[u8], spelling: &[u8], s: u32) -> u32
     ensures { result ≡ cond (same_bytes w.now spelling.now) s other }
 {
@@ -82,8 +82,7 @@ fn symbol_if(w: &[u8], spelling: &[u8], s: u32) -> u32
 fn keyword(w: &[u8]) -> u32
     ensures { result ≡ keyword_symbol w.now }
 {
-    let first = byte_at(w, 0);
-    match first {
+    match byte_at(w, 0) {
         b't' => symbol_if(w, b"tensor", Symbol::TENSOR),
         b'e' => symbol_if(w, b"extent", Symbol::EXTENT),
         b's' => {
@@ -100,31 +99,19 @@ fn keyword(w: &[u8]) -> u32
     }
 }
 
-// The terminal of a keyword or an operator that stands from `start` to `end`.
-fn rare(text: &[u8], kind: u8, start: usize, end: usize) -> u32
-    requires kind_value { kind / 2 ≡ 3 }
+// The terminal of a token of this kind that stands from `start` to `end`.
+#[tactic(auto, unfolding(crate::specs::Symbol::symbol_of))]
+pub fn symbol_of(text: &[u8], kind: Kind, start: usize, end: usize) -> u32
     requires start_lt_end { start < end }
     requires end_in_bounds { end ≤ length text.now }
-    ensures { result ≡ symbol_of kind (take (end - start) (drop start text.now)) }
+    ensures { result ≡ symbol_of (kind_number kind) (take (end - start) (drop start text.now)) }
 {
-    if kind == Kind::KEYWORD {
-        return keyword(&text[start..end]);
+    match kind {
+        Kind::Name => Symbol::NAME,
+        Kind::Whole | Kind::Real => Symbol::NUMBER,
+        Kind::String | Kind::Truth => Symbol::LITERAL,
+        Kind::Keyword => keyword(&text[start..end]),
+        Kind::Operator => symbol_if(&text[start..end], b"-", Symbol::MINUS),
+        Kind::Syntactic => u32::from(text[start]),
     }
-    symbol_if(&text[start..end], b"-", Symbol::MINUS)
-}
-
-// The terminal of a token of this kind that stands from `start` to `end`: of names, numbers and other literals by a sum.
-pub fn symbol_of(text: &[u8], kind: u8, start: usize, end: usize) -> u32
-    requires kind { IsKind kind }
-    requires start_lt_end { start < end }
-    requires end_in_bounds { end ≤ length text.now }
-    ensures { result ≡ symbol_of kind (take (end - start) (drop start text.now)) }
-{
-    if kind / 2 == 3 {
-        return rare(text, kind, start, end);
-    }
-    if kind == Kind::SYNTACTIC {
-        return wide(text[start]);
-    }
-    Symbol::NAME + wide(kind / 2)
 }

@@ -1,21 +1,22 @@
 // The token at a position of a text.
 ghost use Rattle.std.specs.Prelude.{◌≡◌, ◌+◌, ◌<◌, ◌≤◌, length, drop, get_or};
-ghost use Rattle.lexis.specs.Bytes.{class_of, class_table};
-ghost use Rattle.lexis.specs.Lexeme.{word_lexeme, string_lexeme, takes_equal, mark_lexeme, lexeme};
+ghost use Rattle.lexis.specs.Bytes.{class_of};
+ghost use Rattle.lexis.specs.Class.{class_number};
+ghost use Rattle.lexis.specs.Lexeme.{lexeme_told, word_lexeme, string_lexeme, takes_equal, mark_lexeme, lexeme};
 
 use crate::class::Class;
-use crate::code::Code;
 use crate::kind::Kind;
 use crate::limits::Limits;
 use crate::number::number_at;
-use crate::span::{Run, long_run_end, run_end};
+use crate::refusal::Refusal;
+use crate::span::{content_end, name_end};
 use crate::word::kind_of_word;
 
-// What stands at the front of a text: a token, or the code of its fault.
+// A token at the front of a text.
 #[derive(Clone, Copy)]
-pub enum Lexeme {
-    Token { kind: u8, len: usize },
-    Fault(u8),
+pub struct Lexeme {
+    pub kind: Kind,
+    pub len: usize,
 }
 
 // The byte at i, and 0 past the end.
@@ -29,127 +30,110 @@ pub fn byte_at(text: &[u8], i: usize) -> u8
 }
 
 // A name, a keyword, true or false.
-fn word_at(classes: &[u8; 256], text: &[u8], at: usize) -> Lexeme
-    requires classes_value { classes.now ≡ class_table }
-    requires at_in_bounds { at < length text.now }
-    ensures { result ≡ word_lexeme (drop at text.now) }
+fn word_at(text: &[u8], at: usize) -> Result<Lexeme, Refusal>
+    requires { at < length text.now }
+    ensures { lexeme_told result ≡ word_lexeme (drop at text.now) }
 {
-    let end = long_run_end(classes, text, at, Run::NameParts);
-    let n = end - at;
-    if !Limits::name_fits(n) {
-        return Lexeme::Fault(Code::TOO_LONG);
+    let end = name_end(text, at);
+    let len = end - at;
+    if !Limits::name_fits(len) {
+        return Err(Refusal::TooLong);
     }
-    let k = kind_of_word(&text[at..end]);
-    Lexeme::Token { kind: k, len: n }
+    let kind = kind_of_word(&text[at..end]);
+    Ok(Lexeme { kind, len })
 }
 
 // A string whose opening quote stands at `at`.
-fn string_at(classes: &[u8; 256], text: &[u8], at: usize) -> Lexeme
-    requires classes_value { classes.now ≡ class_table }
-    requires at_in_bounds { at < length text.now }
-    ensures { result ≡ string_lexeme (get_or text.now at 0) (drop (at + 1) text.now) }
+fn string_at(text: &[u8], at: usize) -> Result<Lexeme, Refusal>
+    requires { at < length text.now }
+    ensures { lexeme_told result ≡ string_lexeme (get_or text.now at 0) (drop (at + 1) text.now) }
 {
     let q = text[at];
     let from = at + 1;
-    let end = run_end(classes, text, from, Run::Content(q));
+    let end = content_end(text, from, q);
     if byte_at(text, end) != q {
-        return Lexeme::Fault(Code::BAD_STRING);
+        return Err(Refusal::BadString);
     }
     let n = end - from;
     if !Limits::string_fits(n) {
-        return Lexeme::Fault(Code::TOO_LONG);
+        return Err(Refusal::TooLong);
     }
-    Lexeme::Token {
-        kind: Kind::STRING,
+    Ok(Lexeme {
+        kind: Kind::String,
         len: n + 2,
-    }
+    })
 }
 
 // A byte that = may follow.
+#[tactic(auto, unfolding(crate::specs::Lexeme::takes_equal))]
 fn takes_equal(a: u8) -> bool
     ensures { result ≡ takes_equal a }
 {
-    if a == b'<' {
-        return true;
-    }
-    if a == b'>' {
-        return true;
-    }
-    if a == b'=' {
-        return true;
-    }
-    a == b'!'
+    matches!(a, b'<' | b'>' | b'=' | b'!')
 }
 
-// An operator or a syntactic character: a is its first byte, of class k, b the next, 0 where there is none.
-fn mark_of(k: u8, a: u8, b: u8) -> Lexeme
-    requires { k ≡ class_of a }
-    ensures { result ≡ mark_lexeme a b }
+// An operator or a syntactic character: a is its first byte, of this class, b the next, 0 where there is none. A byte and no `Option`: b is only compared
+// with bytes that are not 0.
+fn mark_of(class: Class, a: u8, b: u8) -> Result<Lexeme, Refusal>
+    requires { class_number class ≡ class_of a }
+    ensures { lexeme_told result ≡ mark_lexeme a b }
 {
-    if k == Class::SYNTACTIC {
-        if a == b'=' {
-            if b == b'=' {
-                return Lexeme::Token {
-                    kind: Kind::OPERATOR,
+    match class {
+        Class::Syntactic => {
+            if a == b'=' && b == b'=' {
+                Ok(Lexeme {
+                    kind: Kind::Operator,
                     len: 2,
-                };
+                })
+            } else {
+                Ok(Lexeme {
+                    kind: Kind::Syntactic,
+                    len: 1,
+                })
             }
         }
-        return Lexeme::Token {
-            kind: Kind::SYNTACTIC,
-            len: 1,
-        };
-    }
-    if k == Class::OPERATOR {
-        if b == b'=' {
-            if takes_equal(a) {
-                return Lexeme::Token {
-                    kind: Kind::OPERATOR,
+        Class::Operator => {
+            if b == b'=' && takes_equal(a) {
+                Ok(Lexeme {
+                    kind: Kind::Operator,
                     len: 2,
-                };
+                })
+            } else if a == b'-' && b == b'>' {
+                Ok(Lexeme {
+                    kind: Kind::Syntactic,
+                    len: 2,
+                })
+            } else {
+                Ok(Lexeme {
+                    kind: Kind::Operator,
+                    len: 1,
+                })
             }
         }
-        if b == b'>' {
-            if a == b'-' {
-                return Lexeme::Token {
-                    kind: Kind::SYNTACTIC,
+        Class::Twice => {
+            if a == b {
+                Ok(Lexeme {
+                    kind: Kind::Operator,
                     len: 2,
-                };
+                })
+            } else {
+                Err(Refusal::NoToken)
             }
         }
-        return Lexeme::Token {
-            kind: Kind::OPERATOR,
-            len: 1,
-        };
+        _ => Err(Refusal::NoToken),
     }
-    if k == Class::TWICE {
-        if b == a {
-            return Lexeme::Token {
-                kind: Kind::OPERATOR,
-                len: 2,
-            };
-        }
-    }
-    Lexeme::Fault(Code::NO_TOKEN)
 }
 
-// What stands at `at`, a byte of class k, where no gap does.
-pub fn token_at(classes: &[u8; 256], text: &[u8], at: usize, k: u8) -> Lexeme
-    requires classes_value { classes.now ≡ class_table }
+// What stands at `at`, a byte of this class, where no gap does.
+pub fn token_at(text: &[u8], at: usize, class: Class) -> Result<Lexeme, Refusal>
     requires at_in_bounds { at < length text.now }
-    requires k_value { k ≡ class_of (get_or text.now at 0) }
-    ensures { result ≡ lexeme (drop at text.now) }
+    requires class_value { class_number class ≡ class_of (get_or text.now at 0) }
+    ensures { lexeme_told result ≡ lexeme (drop at text.now) }
 {
-    let b = text[at];
-    if k == Class::LETTER {
-        return word_at(classes, text, at);
+    match class {
+        Class::Letter => word_at(text, at),
+        Class::Digit => number_at(text, at),
+        Class::Quote => string_at(text, at),
+        _ => mark_of(class, text[at], byte_at(text, at + 1)),
     }
-    if k == Class::DIGIT {
-        return number_at(classes, text, at);
-    }
-    if k == Class::QUOTE {
-        return string_at(classes, text, at);
-    }
-    let next = byte_at(text, at + 1);
-    mark_of(k, b, next)
 }

@@ -8,6 +8,7 @@ use native.Mathlib.Omega.{arith}
 use lib.Dec.{eqb, leb}
 use lib.ListN.{get_or, drop}
 use borrow.Author.Tests.{eqb-true, eqb-false, lt-ltb, le-ltb, le-leb, leb-true, leb-false}
+use Rattle.std.specs.Prelude.{Option as Maybe, Some, None}
 use Rattle.lexis.specs.Lexer.{Token}
 use Rattle.lexis.specs.Symbol.{sym_of, is_literal, left_round, right_round, left_square, right_square, comma, minus, a_name, a_number, a_literal}
 use Rattle.syntax.specs.Tree.{unsigned, negated, Value, Values, Ty, Tys}
@@ -43,23 +44,29 @@ clash z = omega arith
 
 -- ---- places and answers
 
-pub none_within : (n i : ℕ) → Within n i 0
-none_within n i = record { past = λ z. absurd (omega arith); inside = omega arith }
+none-some : {j : ℕ} → None ≡ Some j → ⊥
+none-some z = clash cc
 
-pub one-within : (n i j : ℕ) → i ≤ j → j < n → Within n i (j + 1)
-one-within n i j h l = record { past = λ z. omega arith; inside = omega arith }
+same : {j k : ℕ} → Some j ≡ Some k → j ≡ k
+same z = cc
 
-pub wider : (n i k r : ℕ) → i ≤ k → Within n k r → Within n i r
+pub none_within : (n i : ℕ) → Within n i None
+none_within n i = record { past = λ z. absurd (none-some z); inside = λ z. absurd (none-some z) }
+
+pub one-within : (n i j : ℕ) → i ≤ j → j < n → Within n i (Some (j + 1))
+one-within n i j h l = record { past = λ z. let e = same z in omega arith; inside = λ z. let e = same z in omega arith }
+
+pub wider : (n i k : ℕ) (r : Maybe ℕ) → i ≤ k → Within n k r → Within n i r
 wider n i k r h w = record { past = λ z. let q = w.past z in omega arith; inside = w.inside }
 
 module _ {text table : List ℕ} {n : ℕ} {p : Bool} {us : List Token} where
-  fitted-no : p ≡ false → Fitted text table n p us 0
-  fitted-no e = record { misfit = λ z. e; fit = λ z. absurd (omega arith); ends = λ z. absurd (omega arith) }
+  fitted-no : p ≡ false → Fitted text table n p us None
+  fitted-no e = record { misfit = λ z. e; fit = λ z. absurd (none-some z); ends = λ z. absurd (none-some z) }
 
-  fitted-yes : (j : ℕ) → p ≡ true → us ≡ toks text table n (j + 1) → Fitted text table n p us (j + 1)
-  fitted-yes j e f = record { misfit = λ z. absurd (omega arith); fit = λ z. e; ends = λ z. f }
+  fitted-yes : (j : ℕ) → p ≡ true → us ≡ toks text table n (j + 1) → Fitted text table n p us (Some (j + 1))
+  fitted-yes j e f = record { misfit = λ z. absurd (none-some (sym z)); fit = λ z. e; ends = λ z. f ∙ ap (λ (k : ℕ). toks text table n k) (same z) }
 
-  fitted-as : {q : Bool} {r : ℕ} → q ≡ p → Fitted text table n p us r → Fitted text table n q us r
+  fitted-as : {q : Bool} {r : Maybe ℕ} → q ≡ p → Fitted text table n p us r → Fitted text table n q us r
   fitted-as e f = record { misfit = λ z. e ∙ f.misfit z; fit = λ z. e ∙ f.fit z; ends = λ z. f.ends z }
 
 -- ---- a value by its first token
@@ -152,7 +159,7 @@ module _ (text table : List ℕ) (n i : ℕ) (ttext ttable : List ℕ) (tn t k s
       (m : Leaves) (b : ℕ) (v : Value) (us : List Token) (c : ℕ) (w : Ty) (ws : List Token) → Spells m b (toks text table n i) v us
       → IsBase c (toks ttext ttable tn t) w ws → fits v (stacked k w) ≡ false
 
-  pub never : Never → {kinds : ℕ} → OfValue text table n i (toks ttext ttable tn t) kinds k 0
+  pub never : Never → {kinds : ℕ} → OfValue text table n i (toks ttext ttable tn t) kinds k None
   never f m b v us c w ws g h = fitted-no (f m b v us c w ws g h.is_base)
 
   pub array-flat : s ≡ left_square → k ≡ 0 → Never
@@ -203,7 +210,7 @@ module _ (text table : List ℕ) (n i : ℕ) (ttext ttable : List ℕ) (tn t k s
         go (an-array-seen p f x) = absurd (e (look p f sees))
         go (a-tuple-seen {o = x} {vs = vs} p f y) = fits-none (tuple x vs) k w flat ∙ word-no-tuple h type-sees (λ q. d (look p f sees) q) x vs
 
-    pub tuple-each : {kinds : ℕ} (r : ℕ) → o ≡ left_round → OfEach text table n (i + 1) right_round (toks ttext ttable tn (t + 1)) 0 r
+    pub tuple-each : {kinds : ℕ} (r : Maybe ℕ) → o ≡ left_round → OfEach text table n (i + 1) right_round (toks ttext ttable tn (t + 1)) 0 r
         → OfValue text table n i (toks ttext ttable tn t) kinds k r
     tuple-each r d f m b v us c w ws g h = go (seen g)
       where
@@ -217,7 +224,7 @@ module _ (text table : List ℕ) (n i : ℕ) (ttext ttable : List ℕ) (tn t k s
             let xs = subst (λ (xs : List Token). Items m right_round b xs vs us) (behind p ∙ toks-rest text table n i) y in
             fitted-as (fits-none (tuple x vs) k w flat ∙ (ap (fits (tuple x vs)) z.2 ∙ tuple-fits x vs z.1)) (f m b vs us z.0 z.1 ws xs z.4)
 
-  pub array-deep : {kinds : ℕ} (r : ℕ) → s ≡ left_square → (k ≡ 0 → ⊥) → OfArray text table n (i + 1) (toks ttext ttable tn t) kinds (k - 1) r
+  pub array-deep : {kinds : ℕ} (r : Maybe ℕ) → s ≡ left_square → (k ≡ 0 → ⊥) → OfArray text table n (i + 1) (toks ttext ttable tn t) kinds (k - 1) r
       → OfValue text table n i (toks ttext ttable tn t) kinds k r
   array-deep r e z f m b v us c w ws g h = go (seen g)
     where
@@ -239,22 +246,22 @@ module _ (text table : List ℕ) (n i : ℕ) (ttext ttable : List ℕ) (tn t k s
         → (fits v (stacked k w) ≡ leaf_fits_at text table p kinds negative) × (us ≡ toks text table n (p + 1))
 
     leaf-cases : (x : Bool) → leaf_fits_at text table p kinds negative ≡ x → EndsLeaf
-        → OfValue text table n i (toks ttext ttable tn t) kinds k (cond x (p + 1) 0)
+        → OfValue text table n i (toks ttext ttable tn t) kinds k (cond x (Some (p + 1)) None)
     leaf-cases true e f m b v us c w ws g q = let r = f m b v us c w ws g q in fitted-yes p (r.0 ∙ e) r.1
     leaf-cases false e f m b v us c w ws g q = fitted-no ((f m b v us c w ws g q).0 ∙ e)
 
-    answer-of : (s ≡ left_square → ⊥) → (k ≡ 0 → EndsLeaf) → (r : ℕ) → r ≡ leaf_answer text table p kinds k negative
+    answer-of : (s ≡ left_square → ⊥) → (k ≡ 0 → EndsLeaf) → (r : Maybe ℕ) → r ≡ leaf_answer text table p kinds k negative
         → OfValue text table n i (toks ttext ttable tn t) kinds k r
     answer-of d f r e = go (eqb k 0) refl
       where
-        onto : {x : ℕ} → r ≡ x → OfValue text table n i (toks ttext ttable tn t) kinds k x → OfValue text table n i (toks ttext ttable tn t) kinds k r
-        onto p f m b v us c w ws g q = subst (λ (y : ℕ). Fitted text table n (fits v (stacked k w)) us y) (sym p) (f m b v us c w ws g q)
+        onto : {x : Maybe ℕ} → r ≡ x → OfValue text table n i (toks ttext ttable tn t) kinds k x → OfValue text table n i (toks ttext ttable tn t) kinds k r
+        onto p f m b v us c w ws g q = subst (λ (y : Maybe ℕ). Fitted text table n (fits v (stacked k w)) us y) (sym p) (f m b v us c w ws g q)
 
         go : (x : Bool) → eqb k 0 ≡ x → OfValue text table n i (toks ttext ttable tn t) kinds k r
         go true z = onto (simp z at e) (leaf-cases (leaf_fits_at text table p kinds negative) refl (f (eqb-true k 0 z)))
         go false z = onto (simp z at e) (never (flat-deep d (eqb-false k 0 z)))
 
-    within_of : i ≤ p → p < n → (r : ℕ) → r ≡ leaf_answer text table p kinds k negative → Within n i r
+    within_of : i ≤ p → p < n → (r : Maybe ℕ) → r ≡ leaf_answer text table p kinds k negative → Within n i r
     within_of l h r e =
         subst (Within n i) (sym e)
         (cond_has (Within n i) (eqb k 0) (cond_has (Within n i) (leaf_fits_at text table p kinds negative) (one-within n i p l h) (none_within n i))
@@ -295,10 +302,10 @@ module _ (text table : List ℕ) (n i : ℕ) (ttext ttable : List ℕ) (tn t k s
           go (an-array-seen p f x) = let y = look p f sees in absurd (leaf-bracket s (omega (arith, y)) leaf)
           go (a-tuple-seen p f x) = let y = look p f sees in absurd (leaf-bracket s (omega (arith, y)) leaf)
 
-      pub leaf-answer : (kinds r : ℕ) → r ≡ leaf_answer text table i kinds k false → OfValue text table n i (toks ttext ttable tn t) kinds k r
+      pub leaf-answer : (kinds : ℕ) (r : Maybe ℕ) → r ≡ leaf_answer text table i kinds k false → OfValue text table n i (toks ttext ttable tn t) kinds k r
       leaf-answer kinds r e = answer-of i false kinds (λ y. leaf-bracket s (omega (arith, y)) leaf) (leaf-is kinds) r e
 
-      pub leaf-within : (kinds r : ℕ) → r ≡ leaf_answer text table i kinds k false → Within n i r
+      pub leaf-within : (kinds : ℕ) (r : Maybe ℕ) → r ≡ leaf_answer text table i kinds k false → Within n i r
       leaf-within kinds r e = within_of i false kinds (omega arith) h r e
 
     -- with one
@@ -328,29 +335,29 @@ module _ (text table : List ℕ) (n i : ℕ) (ttext ttable : List ℕ) (tn t k s
             at.1,
           )
 
-      lone : n ≤ i + 1 → {kinds : ℕ} → OfValue text table n i (toks ttext ttable tn t) kinds k 0
+      lone : n ≤ i + 1 → {kinds : ℕ} → OfValue text table n i (toks ttext ttable tn t) kinds k None
       lone l m b v us c w ws g q = absurd (omega (arith, (number-after (seen g)).0))
 
-      pub sign-answer : (kinds r : ℕ) → r ≡ cond (leb n (i + 1)) 0 (leaf_answer text table (i + 1) kinds k true)
+      pub sign-answer : (kinds : ℕ) (r : Maybe ℕ) → r ≡ cond (leb n (i + 1)) None (leaf_answer text table (i + 1) kinds k true)
           → OfValue text table n i (toks ttext ttable tn t) kinds k r
       sign-answer kinds r e = go (leb n (i + 1)) refl
         where
           go : (x : Bool) → leb n (i + 1) ≡ x → OfValue text table n i (toks ttext ttable tn t) kinds k r
           go true z =
-              let f : r ≡ 0 = simp z at e in
-              subst (λ (y : ℕ). OfValue text table n i (toks ttext ttable tn t) kinds k y) (sym f) (lone (leb-true n (i + 1) z))
+              let f : r ≡ None = simp z at e in
+              subst (λ (y : Maybe ℕ). OfValue text table n i (toks ttext ttable tn t) kinds k y) (sym f) (lone (leb-true n (i + 1) z))
           go false z = answer-of (i + 1) true kinds (λ y. omega arith) (sign-is kinds) r (simp z at e)
 
-      pub sign-within : (kinds r : ℕ) → r ≡ cond (leb n (i + 1)) 0 (leaf_answer text table (i + 1) kinds k true) → Within n i r
+      pub sign-within : (kinds : ℕ) (r : Maybe ℕ) → r ≡ cond (leb n (i + 1)) None (leaf_answer text table (i + 1) kinds k true) → Within n i r
       sign-within kinds r e = go (leb n (i + 1)) refl
         where
           go : (x : Bool) → leb n (i + 1) ≡ x → Within n i r
-          go true z = let f : r ≡ 0 = simp z at e in subst (Within n i) (sym f) (none_within n i)
+          go true z = let f : r ≡ None = simp z at e in subst (Within n i) (sym f) (none_within n i)
           go false z = within_of (i + 1) true kinds (omega arith) (omega (arith, leb-false n (i + 1) z)) r (simp z at e)
 
     -- a leaf or a sign
-    module _ (starts : starts_leaf s ≡ true) (kinds r : ℕ) (e : r ≡ signed_answer text table n i s kinds k) where
-      signed-has : {X : Type 0} → ((s ≡ minus) → r ≡ cond (leb n (i + 1)) 0 (leaf_answer text table (i + 1) kinds k true) → X)
+    module _ (starts : starts_leaf s ≡ true) (kinds : ℕ) (r : Maybe ℕ) (e : r ≡ signed_answer text table n i s kinds k) where
+      signed-has : {X : Type 0} → ((s ≡ minus) → r ≡ cond (leb n (i + 1)) None (leaf_answer text table (i + 1) kinds k true) → X)
           → (is_leaf_symbol s ≡ true → r ≡ leaf_answer text table i kinds k false → X) → X
       signed-has {X} f g = go (eqb s minus) refl
         where
@@ -367,7 +374,7 @@ module _ (text table : List ℕ) (n i : ℕ) (ttext ttable : List ℕ) (tn t k s
 -- ---- the items of an array
 
 -- items from place i on, as the loop over them meets them
-abbrev pub OfItems : List ℕ → List ℕ → ℕ → ℕ → List Token → ℕ → ℕ → ℕ → Type 0
+abbrev pub OfItems : List ℕ → List ℕ → ℕ → ℕ → List Token → ℕ → ℕ → Maybe ℕ → Type 0
 OfItems text table n i ts kinds k r =
     (m : Leaves) (b : ℕ) (vs : Values) (us : List Token) (c : ℕ) (w : Ty) (ws : List Token) → Items m right_square b (toks text table n i) vs us
     → BaseOf kinds c ts w ws → Fitted text table n (fits_all vs (stacked k w)) us r
@@ -384,16 +391,16 @@ first-not {ts = ts} {s = s} g e f = go (seen g)
     go (a-tuple-seen p q x) = absurd (omega (arith, look p q e))
 
 module _ (text table : List ℕ) (n i : ℕ) (ts : List Token) (kinds k s : ℕ) (sees : s ≡ lookahead (toks text table n i)) where
-  pub array-empty : s ≡ right_square → OfArray text table n i ts kinds k (i + 1)
+  pub array-empty : s ≡ right_square → OfArray text table n i ts kinds k (Some (i + 1))
   array-empty e m b vs us c w ws g h = go refl g
     where
       go : {xs : List Token} {vs : Values} {us : List Token} → toks text table n i ≡ xs → InArray m b xs vs us
-          → Fitted text table n (fits_all vs (stacked k w)) us (i + 1)
+          → Fitted text table n (fits_all vs (stacked k w)) us (Some (i + 1))
       go p (no_items f) = fitted-yes i (all_none (stacked k w)) (behind p ∙ toks-rest text table n i)
       go p (some-items (last-item x f)) = absurd (first-not x (sees ∙ ap lookahead p) e)
       go p (some-items (next-item x f y)) = absurd (first-not x (sees ∙ ap lookahead p) e)
 
-  pub array-some : (r : ℕ) → (s ≡ right_square → ⊥) → OfItems text table n i ts kinds k r → OfArray text table n i ts kinds k r
+  pub array-some : (r : Maybe ℕ) → (s ≡ right_square → ⊥) → OfItems text table n i ts kinds k r → OfArray text table n i ts kinds k r
   array-some r e f m b vs us c w ws g h = go refl g
     where
       go : {xs : List Token} {vs : Values} {us : List Token} → toks text table n i ≡ xs → InArray m b xs vs us
@@ -402,7 +409,7 @@ module _ (text table : List ℕ) (n i : ℕ) (ts : List Token) (kinds k s : ℕ)
       go {vs = vs} {us = us} p (some-items x) = f m b vs us c w ws (subst (λ (xs : List Token). Items m right_square b xs vs us) (sym p) x) h
 
 -- the answer j of one value
-module _ (text table : List ℕ) (n i : ℕ) (ts : List Token) (kinds k j : ℕ) (one : OfValue text table n i ts kinds k j) where
+module _ (text table : List ℕ) (n i : ℕ) (ts : List Token) (kinds k : ℕ) (x : Maybe ℕ) (one : OfValue text table n i ts kinds k x) where
   all-false : (v : Value) (vs : Values) (u : Ty) → fits v u ≡ false → fits_all (more v vs) u ≡ false
   all-false v vs u e = all_more v vs u ∙ simp e
 
@@ -410,34 +417,34 @@ module _ (text table : List ℕ) (n i : ℕ) (ts : List Token) (kinds k j : ℕ)
   all_true v vs u e = all_more v vs u ∙ simp e
 
   answer : {m : Leaves} {b c : ℕ} {v : Value} {w : Ty} {us ws : List Token} → Spells m b (toks text table n i) v us → BaseOf kinds c ts w ws
-      → Fitted text table n (fits v (stacked k w)) us j
+      → Fitted text table n (fits v (stacked k w)) us x
   answer {m} {b} {c} {v} {w} {us} {ws} g h = one m b v us c w ws g h
 
-  pub items-no : j ≡ 0 → OfItems text table n i ts kinds k 0
+  pub items-no : x ≡ None → OfItems text table n i ts kinds k None
   items-no e m b vs us c w ws (last-item {v = v} g f) h = fitted-no (all-false v none (stacked k w) ((answer g h).misfit e))
   items-no e m b vs us c w ws (next-item {v = v} {vs = vs'} g f q) h = fitted-no (all-false v vs' (stacked k w) ((answer g h).misfit e))
 
-  module _ (s : ℕ) (reached : 0 < j) (sees : s ≡ lookahead (toks text table n j)) where
+  module _ (s j : ℕ) (reached : x ≡ Some j) (sees : s ≡ lookahead (toks text table n j)) where
     -- what follows an item
     after : {m : Leaves} {b c a : ℕ} {v : Value} {w : Ty} {o : Token} {us ws : List Token} → Spells m b (toks text table n i) v (o ∷ us)
         → BaseOf kinds c ts w ws
         → sym_of o ≡ a → s ≡ a
     after g h f = look (sym ((answer g h).ends reached)) f sees
 
-    pub items-last : s ≡ right_square → OfItems text table n i ts kinds k (j + 1)
+    pub items-last : s ≡ right_square → OfItems text table n i ts kinds k (Some (j + 1))
     items-last e m b vs us c w ws (last-item {v = v} g f) h =
         let q = answer g h in
         fitted-yes j (all_true v none (stacked k w) (q.fit reached) ∙ all_none (stacked k w)) (behind (sym (q.ends reached)) ∙ toks-rest text table n j)
     items-last e m b vs us c w ws (next-item g f y) h = absurd (omega (arith, after g h f))
 
-    pub items-next : (r : ℕ) → s ≡ comma → OfItems text table n (j + 1) ts kinds k r → OfItems text table n i ts kinds k r
+    pub items-next : (r : Maybe ℕ) → s ≡ comma → OfItems text table n (j + 1) ts kinds k r → OfItems text table n i ts kinds k r
     items-next r e t m b vs us c w ws (last-item g f) h = absurd (omega (arith, after g h f))
     items-next r e t m b vs us c w ws (next-item {v = v} {vs = vs'} g f y) h =
         let q = answer g h in
         let xs = subst (λ (xs : List Token). Items m right_square b xs vs' us) (behind (sym (q.ends reached)) ∙ toks-rest text table n j) y in
         fitted-as (all_true v vs' (stacked k w) (q.fit reached)) (t m b vs' us c w ws xs h)
 
-    pub items-neither : (r : ℕ) → (s ≡ right_square → ⊥) → (s ≡ comma → ⊥) → OfItems text table n i ts kinds k r
+    pub items-neither : (r : Maybe ℕ) → (s ≡ right_square → ⊥) → (s ≡ comma → ⊥) → OfItems text table n i ts kinds k r
     items-neither r e d m b vs us c w ws (last-item g f) h = absurd (e (after g h f))
     items-neither r e d m b vs us c w ws (next-item g f y) h = absurd (d (after g h f))
 
@@ -482,8 +489,8 @@ toks-lead text table n i lead = drop-toks lead i
 
 -- the value at place i, with the answer x, and the type u at place j + lead
 module _ (text table : List ℕ) (n i close : ℕ) (ttext ttable : List ℕ) (tn j lead : ℕ) (u : TypeAt) (read : OfType ttext ttable tn (j + lead) u)
-    (x : ℕ) (one : OfValue text table n i (toks ttext ttable tn (j + lead)) u.kinds u.pairs x) where
-  abbrev Sides : ℕ → Type 0
+    (x : Maybe ℕ) (one : OfValue text table n i (toks ttext ttable tn (j + lead)) u.kinds u.pairs x) where
+  abbrev Sides : Maybe ℕ → Type 0
   Sides r = OfEach text table n i close (toks ttext ttable tn j) lead r
 
   module _ {m : Leaves} {b c : ℕ} {v : Value} {w : Ty} {us ws : List Token} (g : Spells m b (toks text table n i) v us)
@@ -499,7 +506,7 @@ module _ (text table : List ℕ) (n i close : ℕ) (ttext ttable : List ℕ) (tn
     side-end : ws ≡ toks ttext ttable tn u.end
     side-end = (read_of ttext ttable tn (j + lead) u read placed f).end
 
-  pub each-no : x ≡ 0 → Sides 0
+  pub each-no : x ≡ None → Sides None
   each-no y m b vs us c cs ws (last-item {v = v} g f) (last-column {u = u} h d) =
       fitted-no (each-false v none u no-type ((side g h (round-no-pair d)).misfit y))
   each-no y m b vs us c cs ws (last-item {v = v} g f) (next-column {u = u} {vs = us'} h d q) =
@@ -509,7 +516,7 @@ module _ (text table : List ℕ) (n i close : ℕ) (ttext ttable : List ℕ) (tn
   each-no y m b vs us c cs ws (next-item {v = v} {vs = vs'} g f p) (next-column {u = u} {vs = us'} h d q) =
       fitted-no (each-false v vs' u us' ((side g h (comma-no-pair d)).misfit y))
 
-  module _ (s o : ℕ) (reached : 0 < x) (sees : s ≡ lookahead (toks text table n x)) (type-sees : o ≡ lookahead (toks ttext ttable tn u.end)) where
+  module _ (s o after : ℕ) (reached : x ≡ Some after) (sees : s ≡ lookahead (toks text table n after)) (type-sees : o ≡ lookahead (toks ttext ttable tn u.end)) where
     -- what follows the value, and the type
     after-value : {m : Leaves} {b c a : ℕ} {v : Value} {w : Ty} {e : Token} {us ws : List Token} → Spells m b (toks text table n i) v (e ∷ us)
         → IsType c (drop lead (toks ttext ttable tn j)) w ws → NoPair ws → sym_of e ≡ a → s ≡ a
@@ -519,7 +526,7 @@ module _ (text table : List ℕ) (n i close : ℕ) (ttext ttable : List ℕ) (tn
         → IsType c (drop lead (toks ttext ttable tn j)) w (e ∷ ws) → NoPair (e ∷ ws) → sym_of e ≡ a → o ≡ a
     after-type g h f y = look (sym (side-end g h f)) y type-sees
 
-    pub each-stop : (s ≡ close → o ≡ right_round → ⊥) → (s ≡ comma → o ≡ comma → ⊥) → Sides 0
+    pub each-stop : (s ≡ close → o ≡ right_round → ⊥) → (s ≡ comma → o ≡ comma → ⊥) → Sides None
     each-stop y z m b vs us c cs ws (last-item g f) (last-column h d) = absurd (y (after-value g h (round-no-pair d) f) (after-type g h (round-no-pair d) d))
     each-stop y z m b vs us c cs ws (last-item {v = v} g f) (next-column {u = w} {vs = us'} h d r) =
         fitted-no (each-true v none w us' ((side g h (comma-no-pair d)).fit reached) ∙ columns-some r)
@@ -529,21 +536,21 @@ module _ (text table : List ℕ) (n i close : ℕ) (ttext ttable : List ℕ) (tn
         absurd (z (after-value g h (comma-no-pair d) f) (after-type g h (comma-no-pair d) d))
 
     module _ (z : close ≡ comma → ⊥) where
-      pub each_last : s ≡ close → o ≡ right_round → Sides (x + 1)
+      pub each_last : s ≡ close → o ≡ right_round → Sides (Some (after + 1))
       each_last y e m b vs us c cs ws (last-item {v = v} g f) (last-column {u = w} h d) =
           let q = side g h (round-no-pair d) in
-          fitted-yes x (each-true v none w no-type (q.fit reached) ∙ each_none) (behind (sym (q.ends reached)) ∙ toks-rest text table n x)
+          fitted-yes after (each-true v none w no-type (q.fit reached) ∙ each_none) (behind (sym (q.ends reached)) ∙ toks-rest text table n after)
       each_last y e m b vs us c cs ws (last-item g f) (next-column h d r) = absurd (omega (arith, e, after-type g h (comma-no-pair d) d))
       each_last y e m b vs us c cs ws (next-item g f r) (last-column h d) = absurd (z (sym y ∙ after-value g h (round-no-pair d) f))
       each_last y e m b vs us c cs ws (next-item g f r) (next-column h d t) = absurd (z (sym y ∙ after-value g h (comma-no-pair d) f))
 
-      pub each_next : (r : ℕ) → s ≡ comma → o ≡ comma → OfEach text table n (x + 1) close (toks ttext ttable tn (u.end + 1)) lead r → Sides r
+      pub each_next : (r : Maybe ℕ) → s ≡ comma → o ≡ comma → OfEach text table n (after + 1) close (toks ttext ttable tn (u.end + 1)) lead r → Sides r
       each_next r y e a m b vs us c cs ws (last-item g f) (last-column h d) = absurd (omega (arith, e, after-type g h (round-no-pair d) d))
       each_next r y e a m b vs us c cs ws (last-item g f) (next-column h d t) = absurd (z (sym (after-value g h (comma-no-pair d) f) ∙ y))
       each_next r y e a m b vs us c cs ws (next-item g f v) (last-column h d) = absurd (omega (arith, e, after-type g h (round-no-pair d) d))
       each_next r y e a m b vs us c cs ws (next-item {v = v} {vs = vs'} g f i') (next-column {u = w} {vs = us'} h d t) =
           let q = side g h (comma-no-pair d) in
-          let xs = subst (λ (xs : List Token). Items m close b xs vs' us) (behind (sym (q.ends reached)) ∙ toks-rest text table n x) i' in
+          let xs = subst (λ (xs : List Token). Items m close b xs vs' us) (behind (sym (q.ends reached)) ∙ toks-rest text table n after) i' in
           let ts = subst (λ (xs : List Token). Columns lead c xs us' ws)
           (behind (sym (side-end g h (comma-no-pair d))) ∙ toks-rest ttext ttable tn u.end) t in
           fitted-as (each-true v vs' w us' (q.fit reached)) (a m b vs' us c us' ws xs ts)

@@ -13,41 +13,41 @@ use Rattle.lists.specs.Names.{is_among}
 use Rattle.lists.specs.Reading.{is_some}
 use Rattle.lists.specs.Found.{operation_of, find, index_of, found}
 use Rattle.lists.specs.Lists.{lookup_from}
-use Rattle.lists.specs.declared.directory.Lookup.TheVariants.{At, Missing}
+use Rattle.std.specs.Prelude.{Some, None}
 
 -- what is found, by the trees
 lookup-found : (k : ℕ) (hs : List Header) (t : Token)
-    → lookup_from k (map (λ (h : Header). h.name) hs) t ≡ cond (is_some (find hs t)) (At (k + index_of hs t)) Missing
+    → lookup_from k (map (λ (h : Header). h.name) hs) t ≡ cond (is_some (find hs t)) (Some (k + index_of hs t)) None
 unfolding lookup_from operation_of index_of
 lookup-found k [] t = refl
 lookup-found k (g ∷ hs) t = go (same_bytes g.name.bytes t.bytes) (lookup-found (suc k) hs t)
   where
-    go : (b : Bool) → lookup_from (suc k) (map (λ (h : Header). h.name) hs) t ≡ cond (is_some (find hs t)) (At (suc k + index_of hs t)) Missing
-        → cond b (At k) (lookup_from (suc k) (map (λ (h : Header). h.name) hs) t) ≡ cond (is_some (cond b (some g) (find hs t)))
-        (At (k + cond b 0 (suc (index_of hs t)))) Missing
-    go true e = ap At (sym (add-zero k))
-    go false e = let z : suc k + index_of hs t ≡ k + suc (index_of hs t) = omega arith in e ∙ ap (λ (m : ℕ). cond (is_some (find hs t)) (At m) Missing) z
+    go : (b : Bool) → lookup_from (suc k) (map (λ (h : Header). h.name) hs) t ≡ cond (is_some (find hs t)) (Some (suc k + index_of hs t)) None
+        → cond b (Some k) (lookup_from (suc k) (map (λ (h : Header). h.name) hs) t) ≡ cond (is_some (cond b (some g) (find hs t)))
+        (Some (k + cond b 0 (suc (index_of hs t)))) None
+    go true e = ap Some (sym (add-zero k))
+    go false e = let z : suc k + index_of hs t ≡ k + suc (index_of hs t) = omega arith in e ∙ ap (λ (m : ℕ). cond (is_some (find hs t)) (Some m) None) z
 
 pub names-found : (hs : List Header) (t : Token) → lookup_from 0 (map (λ (h : Header). h.name) hs) t ≡ found hs t
 unfolding found
-names-found hs t = let z : 0 + index_of hs t ≡ index_of hs t = omega arith in lookup-found 0 hs t ∙ ap (λ (m : ℕ). cond (is_some (find hs t)) (At m) Missing) z
+names-found hs t = let z : 0 + index_of hs t ≡ index_of hs t = omega arith in lookup-found 0 hs t ∙ ap (λ (m : ℕ). cond (is_some (find hs t)) (Some m) None) z
 
 -- a name is among those where it is found
-pub at-among : (k i : ℕ) (ss : List Token) (t : Token) → lookup_from k ss t ≡ At i → is_among ss t ≡ true
+pub at-among : (k i : ℕ) (ss : List Token) (t : Token) → lookup_from k ss t ≡ Some i → is_among ss t ≡ true
 unfolding lookup_from is_among
 at-among k i [] t h = let z : ◌≡◌ {A = ℕ} 0 1 = cc in absurd (omega arith)
 at-among k i (s ∷ ss) t h = go (same_bytes s.bytes t.bytes) h (at-among (suc k) i ss t)
   where
-    go : (b : Bool) → cond b (At k) (lookup_from (suc k) ss t) ≡ At i → (lookup_from (suc k) ss t ≡ At i → is_among ss t ≡ true) → (b || is_among ss t) ≡ true
+    go : (b : Bool) → cond b (Some k) (lookup_from (suc k) ss t) ≡ Some i → (lookup_from (suc k) ss t ≡ Some i → is_among ss t ≡ true) → (b || is_among ss t) ≡ true
     go true e r = refl
     go false e r = r e
 
-pub missing-among : (k : ℕ) (ss : List Token) (t : Token) → lookup_from k ss t ≡ Missing → is_among ss t ≡ false
+pub missing-among : (k : ℕ) (ss : List Token) (t : Token) → lookup_from k ss t ≡ None → is_among ss t ≡ false
 unfolding lookup_from is_among
 missing-among k [] t h = refl
 missing-among k (s ∷ ss) t h = go (same_bytes s.bytes t.bytes) h (missing-among (suc k) ss t)
   where
-    go : (b : Bool) → cond b (At k) (lookup_from (suc k) ss t) ≡ Missing → (lookup_from (suc k) ss t ≡ Missing → is_among ss t ≡ false)
+    go : (b : Bool) → cond b (Some k) (lookup_from (suc k) ss t) ≡ None → (lookup_from (suc k) ss t ≡ None → is_among ss t ≡ false)
         → (b || is_among ss t) ≡ false
     go true e r = let z : ◌≡◌ {A = ℕ} 0 1 = cc in absurd (omega arith)
     go false e r = r e

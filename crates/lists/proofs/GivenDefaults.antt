@@ -1,11 +1,12 @@
 -- The default of a parameter: none, one that fits, or one that does not. Relies on `Defaults` for where a value starts.
-use mathlib.Core.Path.{◌≡◌, sym, ap, ◌∙◌}
+use mathlib.Core.Path.{◌≡◌, refl, sym, ap, ◌∙◌}
 use mathlib.Core.Bool.{Bool, false}
 use mathlib.Core.List.{List}
 use mathlib.Core.Option.{Option, some}
-use Prim.Native.Nat.{ℕ, ◌+◌, ◌-◌, ◌<◌, ◌≤◌}
+use Prim.Native.Nat.{ℕ, ◌+◌, ◌-◌}
 use native.Mathlib.Omega.{arith}
 use lib.ListN.{length}
+use Rattle.std.specs.Prelude.{Option as Maybe, Some, None}
 use borrow.Author.Tests.{eq-eqb, ne_eqb}
 use Rattle.lexis.specs.Sizes.{max_brackets}
 use Rattle.lexis.specs.Lexer.{Token}
@@ -16,8 +17,8 @@ use Rattle.syntax.specs.Parser.{Parse, begins, rest, value, type, default}
 use Rattle.syntax.specs.Parser.Parse.{ok}
 use Rattle.syntax.specs.Table.{toks, place_of, parsed}
 use Rattle.syntax.specs.Inner.{lookahead}
-use Rattle.syntax.specs.declared.Parsed.{Parsed}
-use Rattle.syntax.specs.declared.Parsed.TheVariants.{Done, Fault}
+use Rattle.syntax.specs.Read.{Parsed}
+use Rattle.syntax.specs.Read.Parsed.{Done, Fault}
 use Rattle.syntax.proofs.Tails.{Takes, value-tails}
 use Rattle.syntax.proofs.Tails.Takes.{took, fault}
 use Rattle.syntax.proofs.Table.{toks-rest, toks-suffix}
@@ -60,7 +61,7 @@ module _ {text table : List ℕ} {n : ℕ} {u : Ty} {ws : List Token} {ty : Type
     begins-is = ap (begins equal) is.end
 
     pub no-default-is : {best : Best} → (lookahead (toks text table n ty.end) ≡ equal → ⊥) → meant best ≡ meant clean
-        → DefaultIs text table n u o us (record { at = 0; end = ty.end; best = best })
+        → DefaultIs text table n u o us (record { at = None; end = ty.end; best = best })
     unfolding meant F.first
     no-default-is q m =
         let b : begins equal ws ≡ false = begins-is ∙ begins-look equal (toks text table n ty.end) (omega arith)
@@ -68,6 +69,7 @@ module _ {text table : List ℕ} {n : ℕ} {u : Ty} {ws : List Token} {ty : Type
         let z = default_none max_brackets ws o us b read in
         record {
           left = sym (default-left max_brackets ws o us b read) ∙ is.end;
+          given = rw z refl;
           place = rw z no_default;
           faulted = m ∙ sym (ap (λ (x : Option Value). F.first (bad_default u x)) z);
         }
@@ -81,28 +83,30 @@ module _ {text table : List ℕ} {n : ℕ} {u : Ty} {ws : List Token} {ty : Type
       there : value literals max_brackets (toks text table n (ty.end + 1)) ≡ ok given.tree us
       there = ap (value literals max_brackets) (sym (toks-rest text table n ty.end) ∙ ap rest (sym is.end)) ∙ given.read
 
-      module _ {next : ℕ} (fit : OfItem text table n (ty.end + 1) (toks text table n t) ty.kinds ty.pairs next) where
-        pub fitting-at : {best : Best} → 0 < next → meant best ≡ meant clean
-            → DefaultIs text table n u o us (record { at = ty.end + 1; end = next; best = best })
+      module _ {answer : Maybe ℕ} (fit : OfItem text table n (ty.end + 1) (toks text table n t) ty.kinds ty.pairs answer) where
+        pub fitting-at : {best : Best} {next : ℕ} → answer ≡ Some next → meant best ≡ meant clean
+            → DefaultIs text table n u o us (record { at = Some (ty.end + 1); end = next; best = best })
         unfolding meant F.first
         fitting-at l m =
             let f = fit literals max_brackets given.tree us max_brackets u ws there typed is.kinds is.pairs in
             record {
               left = f.ends l;
+              given = rw given.is refl;
               place = rw given.is (a-default {d = ty.end + 1} (omega arith) there);
               faulted = m ∙ sym (ap (λ (x : Option Value). F.first (bad_default u x)) given.is
                   ∙ ap (λ (b : Bool). F.first (F.unless b (F.fault 14 (start_of given.tree)))) (f.fit l));
             }
 
-        pub misfit-at : {best : Best} {end : ℕ} → next ≡ 0
+        pub misfit-at : {best : Best} {end : ℕ} → answer ≡ None
             → ((x : Value) (us : List Token) → value literals max_brackets (toks text table n (ty.end + 1)) ≡ ok x us → us ≡ toks text table n end)
             → meant best ≡ some (F.fault 14 (place_of (length text) (toks text table n (ty.end + 1))))
-            → DefaultIs text table n u o us (record { at = ty.end + 1; end = end; best = best })
+            → DefaultIs text table n u o us (record { at = Some (ty.end + 1); end = end; best = best })
         unfolding F.first
         misfit-at z ends m =
             let f = fit literals max_brackets given.tree us max_brackets u ws there typed is.kinds is.pairs in
             record {
               left = ends given.tree us there;
+              given = rw given.is refl;
               place = rw given.is (a-default {d = ty.end + 1} (omega arith) there);
               faulted =
                   m
@@ -113,15 +117,16 @@ module _ {text table : List ℕ} {n : ℕ} {u : Ty} {ws : List Token} {ty : Type
                   given.tree us there));
             }
 
-module _ {text table : List ℕ} {n : ℕ} (t : ℕ) {u : Ty} {ws : List Token} {ty : TypeAt} {o : Option Value} {us : List Token} {next : ℕ} {best : Best}
+module _ {text table : List ℕ} {n : ℕ} (t : ℕ) {u : Ty} {ws : List Token} {ty : TypeAt} {o : Option Value} {us : List Token} {answer : Maybe ℕ} {best : Best}
     (typed : type max_brackets (toks text table n t) ≡ ok u ws) (is : TypeIs text table n u ws ty) (read : default max_brackets ws ≡ ok o us)
-    (q : lookahead (toks text table n ty.end) ≡ equal) (fit : OfItem text table n (ty.end + 1) (toks text table n t) ty.kinds ty.pairs next)
+    (q : lookahead (toks text table n ty.end) ≡ equal) (fit : OfItem text table n (ty.end + 1) (toks text table n t) ty.kinds ty.pairs answer)
   where
-    pub fitting-is : 0 < next → meant best ≡ meant clean → DefaultIs text table n u o us (record { at = ty.end + 1; end = next; best = best })
+    pub fitting-is : {next : ℕ} → answer ≡ Some next → meant best ≡ meant clean
+        → DefaultIs text table n u o us (record { at = Some (ty.end + 1); end = next; best = best })
     fitting-is l m = fitting-at is read t typed q fit l m
 
-    pub misfit-is : {end : ℕ} → next ≤ 0
+    pub misfit-is : {end : ℕ} → answer ≡ None
         → ((x : Value) (us : List Token) → value literals max_brackets (toks text table n (ty.end + 1)) ≡ ok x us → us ≡ toks text table n end)
         → meant best ≡ some (F.fault 14 (place_of (length text) (toks text table n (ty.end + 1))))
-        → DefaultIs text table n u o us (record { at = ty.end + 1; end = end; best = best })
-    misfit-is z ends m = misfit-at is read t typed q fit (omega arith) ends m
+        → DefaultIs text table n u o us (record { at = Some (ty.end + 1); end = end; best = best })
+    misfit-is z ends m = misfit-at is read t typed q fit z ends m

@@ -86,14 +86,13 @@ module _ (text table : List ℕ) (n at : ℕ) {h : Header} {us : List Token} (re
 
 -- ---- what the parts of the walk rely on
 
-module _ {text table index : List ℕ} {n k : ℕ} {r : Row} (ready : Ready text table index n k r) (reads : Reads (header max_brackets) text table n r.at) where
+module _ {text table index : List ℕ} {n k : ℕ} {r : Row} (ready : Ready text index n k r) (reads : Reads (header max_brackets) text table n r.at) where
   pub header-inside : r.at + 1 + 2 ≤ n
   header-inside = three-inside text table n r.at reads.is
 
   pub params-ready : {index₁ : List ℕ} (best : Best) → Walkable index₁ (r.at + 1 + 1) n
-      → Ready text table index₁ n (k + 1) (empty_row best (r.at + 1 + 2) r.params 0)
+      → Ready text index₁ n (k + 1) (empty_row best (r.at + 1 + 2) r.params 0)
   params-ready best walk = record {
-    held = ready.held;
     short = ready.short;
     small = ready.small;
     inside = header-inside;
@@ -106,7 +105,7 @@ module _ {text table index : List ℕ} {n k : ℕ} {r : Row} (ready : Ready text
   pub params-reads : Reads param_row text table n (r.at + 1 + 2)
   params-reads = record { tree = reads.tree.params; left = _; is = params-there text table n r.at reads.is }
 
-  module _ {index₁ index₂ words words₂ : List ℕ} {best : Best} {ps : Row} (after : Ready text table index₂ n (k + 1) ps)
+  module _ {index₁ index₂ words words₂ : List ℕ} {best : Best} {ps : Row} (after : Ready text index₂ n (k + 1) ps)
       (params : OfParameters text table index₁ index₂ words words₂ n (k + 1) (empty_row best (r.at + 1 + 2) r.params 0) ps)
     where
       behind : (parts text table n r.at reads.is).sign ∷ (parts text table n r.at reads.is).second ∷ (parts text table n r.at
@@ -116,9 +115,8 @@ module _ {text table index : List ℕ} {n k : ℕ} {r : Row} (ready : Ready text
       pub results-inside : ps.at + 2 ≤ n
       results-inside = two-inside text table n r.at reads.is ps.at behind
 
-      pub results-ready : Ready text table index₂ n (k + 1) (empty_row ps.best (ps.at + 2) ps.params ps.required)
+      pub results-ready : Ready text index₂ n (k + 1) (empty_row ps.best (ps.at + 2) ps.params ps.required)
       results-ready = record {
-        held = ready.held;
         short = ready.short;
         small = ready.small;
         inside = results-inside;
@@ -131,10 +129,9 @@ module _ {text table index : List ℕ} {n k : ℕ} {r : Row} (ready : Ready text
       pub results-reads : Reads result_row text table n (ps.at + 2)
       results-reads = record { tree = reads.tree.results; left = reads.left; is = results-there text table n r.at reads.is ps.at behind }
 
-pub header-ready : {text table index : List ℕ} {n k : ℕ} {r : Row} (best : Best) → Ready text table index n k r
-    → Ready text table index n k (empty_row best r.at r.params 0)
+pub header-ready : {text index : List ℕ} {n k : ℕ} {r : Row} (best : Best) → Ready text index n k r
+    → Ready text index n k (empty_row best r.at r.params 0)
 header-ready best a = record {
-  held = a.held;
   short = a.short;
   small = a.small;
   inside = a.inside;
@@ -299,7 +296,7 @@ module _ {text table index index₁ words words₁ : List ℕ} {n k : ℕ} {r r�
       let e = ap (λ (x : List Token). length x) (one b.head b.left b.read).left ∙ toks-length text table n r₁.at in
       omega (arith, header-takes (toks text table n r.at) b.read, toks-length text table n r.at)
 
-pub headers-end : {text table index words : List ℕ} {n k : ℕ} {r : Row} → n ≤ r.at → Ready text table index n k r
+pub headers-end : {text table index words : List ℕ} {n k : ℕ} {r : Row} → n ≤ r.at → Ready text index n k r
     → OfHeaders text table index index words words n k r (record { best = r.best; count = k })
 unfolding operations row_faults flat_map first
 headers-end {text} {table} {index} {words} {n} {k} {r} out ready hs e =
@@ -318,7 +315,7 @@ headers-end {text} {table} {index} {words} {n} {k} {r} out ready hs e =
 
 -- what the loop over headers knows
 pub record HeadersFrom (text table : List ℕ) (n : ℕ) (index₀ words₀ : List ℕ) (r₀ : Row) (index words : List ℕ) (k : ℕ) (r : Row) : Type 0 where
-  pub ready : Ready text table index n k r
+  pub ready : Ready text index n k r
   pub roomy : Roomy words n
   pub index-size : length index ≡ length index₀
   pub words_size : length words ≡ length words₀
@@ -326,7 +323,7 @@ pub record HeadersFrom (text table : List ℕ) (n : ℕ) (index₀ words₀ : Li
   pub back : (index' words' : List ℕ) (r' : Ruled) → OfHeaders text table index index' words words' n k r r'
       → OfHeaders text table index₀ index' words₀ words' n 0 r₀ r'
 
-pub headers-start : {text table index words : List ℕ} {n : ℕ} {r : Row} → Ready text table index n 0 r → Roomy words n
+pub headers-start : {text table index words : List ℕ} {n : ℕ} {r : Row} → Ready text index n 0 r → Roomy words n
     → Reads (operations max_brackets) text table n r.at
     → HeadersFrom text table n index words r index words 0 r
 headers-start a b c = record { ready = a; roomy = b; index-size = refl; words_size = refl; list = c; back = λ i w x h. h }
@@ -335,7 +332,7 @@ module _ {text table : List ℕ} {n : ℕ} {index₀ words₀ : List ℕ} {r₀ 
     (inv : HeadersFrom text table n index₀ words₀ r₀ index words k r)
   where
     pub headers-again : {index₁ words₁ : List ℕ} {r₁ : Row} → r.at < n → OfHeader text table index index₁ words words₁ n k r r₁
-        → Ready text table index₁ n (k + 1) r₁
+        → Ready text index₁ n (k + 1) r₁
         → length index₁ ≡ length index → length words₁ ≡ length words → HeadersFrom text table n index₀ words₀ r₀ index₁ words₁ (k + 1) r₁
     headers-again l one ready m e = record {
       index-size = m ∙ inv.index-size;

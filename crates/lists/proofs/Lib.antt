@@ -36,7 +36,6 @@ pub mod HeaderReads
 pub mod Faultless
 pub mod Directories
 pub mod ListStages
-pub mod Clearing
 -- What a list is refused for, and what is answered.
 pub mod Lines
 pub mod Refusals

@@ -20,8 +20,8 @@ use Rattle.lexis.specs.Symbol.{symbols}
 use Rattle.lexis.specs.Work.{records, Recorded, Room}
 use Rattle.lexis.specs.Answer as LA
 use Rattle.lexis.specs.declared.Answer.{Answer}
-use Rattle.lexis.specs.declared.Counted.{Counted}
-use Rattle.lexis.specs.declared.Counted.TheVariants as C
+use Rattle.lexis.specs.Answer.{Counted}
+use Rattle.lexis.specs.Answer.Counted.{Tokens, Fault as Refused}
 use Rattle.syntax.specs.Tree.{Header}
 use Rattle.syntax.specs.Parser.{Parse, parse_list}
 use Rattle.syntax.specs.Parser.Parse.{ok, bad}
@@ -42,8 +42,9 @@ use Rattle.lists.specs.Answer.{stop, and_then, bytes_stage, syntax_stage, rules_
 use Rattle.lists.specs.Headers.{Roomy, Ready, empty_row, row_faults, of_headers, Numbered, HeadersRead, OfHeaders}
 use Rattle.lists.specs.Stages.{ListRead, Served, ListPassed, ListDone}
 use Rattle.lists.specs.declared.headers.Ruled.{Ruled}
-use Rattle.lists.specs.declared.list.Listed.{Listed}
-use Rattle.lists.specs.declared.list.Listed.TheVariants.{Passed, Stopped}
+use Rattle.lists.specs.declared.best.Fault.{Fault as Found}
+use Rattle.lexis.specs.Refusal.{refusal_number}
+use Rattle.std.proofs.Common.{Some, None}
 use Rattle.lists.proofs.Bests.{clean-none}
 use Rattle.lists.proofs.Faultless.{own-clean, few-operations}
 use Rattle.lists.proofs.RowFaults.{list-faults}
@@ -53,17 +54,17 @@ use Rattle.lists.proofs.NameMarks.{names-start}
 
 -- what reading n tokens says of the list
 module _ (text before after : List ℕ) (n : ℕ) (small : n ≤ max_tokens) (large : work_words ≤ length before) where
-  read_by : (l : Lexed) → lex text ≡ l → C.Tokens n ≡ read_after S.List (length text) l → Recorded true l before after → n * record_words ≤ length before
+  read_by : (l : Lexed) → lex text ≡ l → Tokens n ≡ read_after S.List (length text) l → Recorded true l before after → n * record_words ≤ length before
       → ListRead text after n
   unfolding list_stages
   read_by (refused c p) e h w r = let z : ◌≡◌ {A = ℕ} 0 1 = cc in absurd (omega arith)
   read_by (accepted ts) e h w r = go (parse_list ts) refl h
     where
-      go : (p : Parse (List Header)) → parse_list ts ≡ p → C.Tokens n ≡ agreed (length ts) (parsed (length text) (length ts) p) → ListRead text after n
+      go : (p : Parse (List Header)) → parse_list ts ≡ p → Tokens n ≡ agreed (length ts) (parsed (length text) (length ts) p) → ListRead text after n
       go (bad c us) q k = let z : ◌≡◌ {A = ℕ} 0 1 = cc in absurd (omega arith)
       go (ok hs us) q k =
           let m : n ≡ length ts = cc in
-          let g = got text before after (C.Tokens n) n (ap C.Tokens (m ∙ sym (zero-add (length ts))) ∙ ap LA.counted (sym e))
+          let g = got text before after (Tokens n) n (ap Tokens (m ∙ sym (zero-add (length ts))) ∙ ap LA.counted (sym e))
           (subst (λ (l : Lexed). Recorded true l before after) (sym e) w) (small, r) large refl in
           let same : g.tokens ≡ ts = let y = sym g.is ∙ e in cc in
           let d : toks text after n 0 ≡ ts = g.decoded ∙ same in
@@ -79,21 +80,21 @@ module _ (text before after : List ℕ) (n : ℕ) (small : n ≤ max_tokens) (la
                 ∙ ap (λ (x : Parse (List Header)). and_then (syntax_stage 1 text x) (λ ys. rules_stage 1 ys (first (list_faults ys)))) q;
           }
 
-  pub read-list : {x : Counted} → x ≡ read_of S.List text → x ≡ C.Tokens n → Recorded true (lex text) before after → Room x (length before)
+  pub read-list : {x : Counted} → x ≡ read_of S.List text → x ≡ Tokens n → Recorded true (lex text) before after → Room x (length before)
       → ListRead text after n
   read-list {x} h e w r = read_by (lex text) refl (sym e ∙ h) w (subst (λ (y : Counted). Room y (length before)) e r).1
 
 -- a fault of the bytes or the syntax stops the stages
-pub read-stops : (text : List ℕ) {c p : ℕ} {x : Counted} → x ≡ read_of S.List text → x ≡ C.Fault c p → list_stages text ≡ stop (answer c 1 p 0)
+pub read-stops : (text : List ℕ) {c p : ℕ} {x : Counted} → x ≡ read_of S.List text → x ≡ Refused c p → list_stages text ≡ stop (answer c 1 p 0)
 unfolding list_stages
 read-stops text {c} {p} h e = go (lex text) (sym e ∙ h)
   where
-    parses : (ts : List Token) (x : Parse (List Header)) → C.Fault c p ≡ agreed (length ts) (parsed (length text) (length ts) x)
+    parses : (ts : List Token) (x : Parse (List Header)) → Refused c p ≡ agreed (length ts) (parsed (length text) (length ts) x)
         → and_then (syntax_stage 1 text x) (λ ys. rules_stage 1 ys (first (list_faults ys))) ≡ stop (answer c 1 p 0)
     parses ts (ok hs us) k = let z : ◌≡◌ {A = ℕ} 0 1 = cc in absurd (omega arith)
     parses ts (bad d us) k = let a : d ≡ c = cc in let b : place_of (length text) us ≡ p = cc in ap₂ (λ (x y : ℕ). stop (answer x 1 y 0)) a b
 
-    go : (l : Lexed) → C.Fault c p ≡ read_after S.List (length text) l → and_then (bytes_stage 1 l)
+    go : (l : Lexed) → Refused c p ≡ read_after S.List (length text) l → and_then (bytes_stage 1 l)
         (λ xs. and_then (syntax_stage 1 text (parse_list xs)) (λ ys. rules_stage 1 ys (first (list_faults ys)))) ≡ stop (answer c 1 p 0)
     go (refused d q) k = let a : d ≡ c = cc in let b : q ≡ p = cc in ap₂ (λ (x y : ℕ). stop (answer x 1 y 0)) a b
     go (accepted ts) k = parses ts (parse_list ts) k
@@ -121,7 +122,7 @@ module _ {text work index index' words words' : List ℕ} {n : ℕ} (list : List
         ∙ ap (λ (x : Option Fault). earlier x (first (row_faults of_headers [] [] list.headers))) clean-none
         ∙ list-faults list.headers
 
-    pub rules-pass : Roomy words' n → Walkable index' n n → n ≤ max_tokens → ruled.count ≤ n → ruled.best.code ≡ 0
+    pub rules-pass : Roomy words' n → Walkable index' n n → n ≤ max_tokens → ruled.count ≤ n → ruled.best.fault ≡ None
         → ListPassed text work index' words' n ruled.count
     unfolding meant
     rules-pass roomy walk small few z =
@@ -142,10 +143,10 @@ module _ {text work index index' words words' : List ℕ} {n : ℕ} (list : List
           names = read.names [] start refl;
         }
 
-    pub rules-stop : (ruled.best.code ≡ 0 → ⊥) → list_stages text ≡ stop (answer ruled.best.code 1 ruled.best.at ruled.best.detail)
+    pub rules-stop : {f : Found} → ruled.best.fault ≡ Some f → list_stages text ≡ stop (answer (refusal_number f.refusal) 1 f.at f.detail)
     unfolding meant
-    rules-stop z =
-        let m : some (fault_of ruled.best) ≡ first (list_faults list.headers) = rw (ne_eqb ruled.best.code 0 z) at found-is in
+    rules-stop {f} z =
+        let m : some (fault_of f) ≡ first (list_faults list.headers) = rw z at found-is in
         list.stages ∙ ap (rules_stage 1 list.headers) (sym m)
 
 -- room for n tokens is room for fewer
@@ -181,9 +182,8 @@ served-zeros i w m e f =
 
 -- the walk may start
 pub walk-ready : {text work index words : List ℕ} {n : ℕ} → ListRead text work n → length text ≤ max_text → n ≤ max_tokens → Served index words n
-    → Ready text work index n 0 (empty_row clean 0 0 0)
+    → Ready text index n 0 (empty_row clean 0 0 0)
 walk-ready {index = index} list short small s = record {
-  held = list.table;
   short = short;
   small = small;
   inside = omega arith;
@@ -192,12 +192,3 @@ walk-ready {index = index} list short small s = record {
   numbered = omega arith;
   names = empty-walkable index (length index) s.empty 0 _ s.room;
 }
-
--- ---- what the stages came to
-
-pub passed_is : {text work index words : List ℕ} {x : Listed} {n k : ℕ} → ListDone text work index words x → x ≡ Passed n k
-    → ListPassed text work index words n k
-passed_is {text} {work} {index} {words} d e = subst (ListDone text work index words) e d
-
-pub stopped-is : (text work index words : List ℕ) (x : Listed) {r : Answer} → ListDone text work index words x → x ≡ Stopped r → list_stages text ≡ stop r
-stopped-is text work index words x d e = subst (ListDone text work index words) e d

@@ -2,13 +2,14 @@
 -- items of a tuple up to `=`; a left side of one value is no such tuple, since a tuple type has at least two items.
 -- Assumes nothing.
 use mathlib.Core.Path.{◌≡◌, refl, sym, ap, subst, ◌∙◌}
-use mathlib.Core.Bool.{Bool, true, false, not, ◌&&◌}
+use mathlib.Core.Bool.{Bool, true, false, ◌&&◌}
 use mathlib.Core.List.{List, [], ◌∷◌}
-use Prim.Native.Nat.{ℕ, ◌+◌, ◌<◌}
+use Prim.Native.Nat.{ℕ, ◌+◌}
 use native.Mathlib.Omega.{arith}
 use lib.Dec.{eqb}
 use lib.ListN.{drop}
-use borrow.Author.Tests.{eq-eqb, ne_eqb, eqb-true, eqb-false}
+use borrow.Author.Tests.{eq-eqb, ne_eqb}
+use Rattle.std.specs.Prelude.{Option as Maybe, Some, None}
 use Rattle.lexis.specs.Lexer.{Token}
 use Rattle.lexis.specs.Symbol.{sym_of, left_round, right_round, equal, comma, a_name}
 use Rattle.syntax.specs.Tree.{Value, Values, Ty, Tys, Result}
@@ -46,25 +47,18 @@ clash z = omega arith
 
 module _ (text table : List ℕ) (n : ℕ) where
   -- an answer as a test, and that `=` follows
-  pub fit-told : (p : Bool) (us : List Token) (r : ℕ) → Fitted text table n p us r → is_fit r ≡ p
-  fit-told p us r h = go (eqb r 0) refl
-    where
-      go : (x : Bool) → eqb r 0 ≡ x → not x ≡ p
-      go true e = sym (h.misfit (eqb-true r 0 e))
-      go false e = let d = eqb-false r 0 e in sym (h.fit (omega (arith, d)))
+  pub fit-told : (p : Bool) (us : List Token) (r : Maybe ℕ) → Fitted text table n p us r → is_fit r ≡ p
+  fit-told p us None h = sym (h.misfit refl)
+  fit-told p us (Some j) h = sym (h.fit refl)
 
-  whole-told : (p : Bool) (e : Token) (us : List Token) (r : ℕ) → Fitted text table n p (e ∷ us) r → is_whole text table n r ≡ (p && eqb (sym_of e) equal)
-  whole-told p e us r h = go (eqb r 0) refl
-    where
-      go : (x : Bool) → eqb r 0 ≡ x → (not x && eqb (lookahead (toks text table n r)) equal) ≡ (p && eqb (sym_of e) equal)
-      go true f = ap (λ (q : Bool). q && eqb (sym_of e) equal) (sym (h.misfit (eqb-true r 0 f)))
-      go false f =
-          let d = eqb-false r 0 f in
-          let l : 0 < r = omega (arith, d) in
-          ap (λ (ts : List Token). eqb (lookahead ts) equal) (sym (h.ends l)) ∙ ap (λ (q : Bool). q && eqb (sym_of e) equal) (sym (h.fit l))
+  whole-told : (p : Bool) (e : Token) (us : List Token) (r : Maybe ℕ) → Fitted text table n p (e ∷ us) r
+      → is_whole text table n r ≡ (p && eqb (sym_of e) equal)
+  whole-told p e us None h = ap (λ (q : Bool). q && eqb (sym_of e) equal) (sym (h.misfit refl))
+  whole-told p e us (Some j) h =
+      ap (λ (ts : List Token). eqb (lookahead ts) equal) (sym (h.ends refl)) ∙ ap (λ (q : Bool). q && eqb (sym_of e) equal) (sym (h.fit refl))
 
 -- a value and a type, as the readers read them
-pub item-told : (text table : List ℕ) (n i : ℕ) (ts : List Token) (kinds k r : ℕ) → OfValue text table n i ts kinds k r → OfItem text table n i ts kinds k r
+pub item-told : (text table : List ℕ) (n i : ℕ) (ts : List Token) (kinds k : ℕ) (r : Maybe ℕ) → OfValue text table n i ts kinds k r → OfItem text table n i ts kinds k r
 item-told text table n i ts kinds k r one m b v us c u ws f g p q =
     let s = shape (type-is c ts g) in
     let w = base-of s p in
@@ -116,7 +110,7 @@ module _ (text table : List ℕ) (n i : ℕ) (u : Ty) (w : Bool) (whole : OfWhol
       go (one_side {e = e} g f) = sym y ∙ equal-after e g f
       go (bare-sides {t = t} {v = v} {vs = vs} g f r) = sym (d t (more v vs))
 
-  pub left-each : w ≡ false → (cs : Tys) → u ≡ tuple_of cs → Several cs → (c : ℕ) (ts ws : List Token) (lead : ℕ) → Columns lead c ts cs ws → (r : ℕ)
+  pub left-each : w ≡ false → (cs : Tys) → u ≡ tuple_of cs → Several cs → (c : ℕ) (ts ws : List Token) (lead : ℕ) → Columns lead c ts cs ws → (r : Maybe ℕ)
       → OfEach text table n i equal ts lead r → OfLeft text table n i u (is_fit r)
   left-each y cs q s c ts ws lead k r one b v us h = go (sides h)
     where
@@ -150,7 +144,7 @@ label-left h = go (sides h)
 
 -- ---- one value and its equals sign
 
-pub whole-value : (text table : List ℕ) (n i : ℕ) (ts : List Token) (kinds k r : ℕ) (x : Bool) → OfValue text table n i ts kinds k r
+pub whole-value : (text table : List ℕ) (n i : ℕ) (ts : List Token) (kinds k : ℕ) (r : Maybe ℕ) (x : Bool) → OfValue text table n i ts kinds k r
     → x ≡ is_whole text table n r
     → (c : ℕ) (w : Ty) (ws : List Token) → BaseOf kinds c ts w ws → OfWhole text table n i (stacked k w) x
 whole-value text table n i ts kinds k r x one f c w ws h m b v e us g =
@@ -176,7 +170,7 @@ module _ (text table : List ℕ) (n i s : ℕ) (sees : s ≡ lookahead (toks tex
       go (an-array-seen p f x) = refl
       go (a-tuple-seen p f x) = absurd (d (look p f sees))
 
-  pub bracket : s ≡ left_round → (c : ℕ) (ts ws : List Token) (lead : ℕ) → Columns lead c ts cs ws → (r : ℕ) (x : Bool)
+  pub bracket : s ≡ left_round → (c : ℕ) (ts ws : List Token) (lead : ℕ) → Columns lead c ts cs ws → (r : Maybe ℕ) (x : Bool)
       → OfEach text table n (i + 1) right_round ts lead r → x ≡ is_whole text table n r → OfWhole text table n i (tuple_of cs) x
   bracket d c ts ws lead k r x one f m b v e us g = go refl (seen g)
     where

@@ -1,27 +1,26 @@
 -- The names of a list in the index: what a name that is entered makes of its number and its mark, and what a look-up finds. Relies on the theorems of the
 -- index, and on `Directories` for what a search in a row of names finds.
-use mathlib.Core.Path.{◌≡◌, refl, sym, ap, ◌∙◌}
-use mathlib.Core.Bool.{Bool, true, false, cond, ◌||◌}
+use mathlib.Core.Path.{◌≡◌, refl, sym, ap, subst, ◌∙◌}
+use mathlib.Core.Bool.{Bool, true, false, cond, not, ◌||◌}
 use mathlib.Core.List.{List, [], ◌∷◌, ◌++◌, map}
 use Prim.Native.Nat.{ℕ, zero, suc, ◌+◌, ◌-◌, ◌<◌, ◌≤◌}
 use native.Mathlib.Omega.{arith}
 use lib.Dec.{eqb}
 use lib.ListN.{length, set, replicate}
-use borrow.Author.Tests.{eq-eqb, ne_eqb}
+use borrow.Author.Tests.{eqb-true, eqb-false, eq-eqb, ne_eqb}
 use Rattle.spellings.specs.Comparison.{same_bytes}
 use Rattle.spellings.proofs.Spellings.{same-is}
 use Rattle.lexis.specs.Lexer.{Token}
 use Rattle.syntax.specs.Tree.{Header}
 use Rattle.syntax.specs.Table.{token_at}
 use Rattle.index.specs.Layout.{name_words, word_place, word_at}
-use Rattle.index.specs.Mapped.{EnteredAt, both, changed, Enters, LooksUp}
+use Rattle.index.specs.Mapped.{EnteredAt, both, changed, kept_in, Enters, LooksUp}
 use Rattle.index.proofs.Theorems.{empty-mapped, mapped-as, word-placed, first-set, second-set}
 use Rattle.lists.specs.Names.{is_among}
 use Rattle.lists.specs.Found.{found}
 use Rattle.lists.specs.Lists.{lookup_from}
 use Rattle.lists.specs.Headers.{lookup_number, Numbered, Names, Marks, Numbers}
-use Rattle.lists.specs.declared.directory.Lookup.{Lookup}
-use Rattle.lists.specs.declared.directory.Lookup.TheVariants.{At, Missing}
+use Rattle.std.specs.Prelude.{Option as Maybe, Some, None}
 use Rattle.lists.proofs.Directories.{at-among, missing-among, names-found}
 
 -- ---- one name more in a row
@@ -54,7 +53,7 @@ number_more : (k : ℕ) (ss : List Token) (s t : Token)
 unfolding lookup_from
 number_more k [] s t = let z : k ≡ k + 0 = omega arith in go (same_bytes s.bytes t.bytes) z
   where
-    go : (b : Bool) {m : ℕ} → k ≡ m → lookup_number (cond b (At k) Missing) ≡ cond b (suc m) 0
+    go : (b : Bool) {m : ℕ} → k ≡ m → lookup_number (cond b (Some k) None) ≡ cond b (suc m) 0
     go true e = ap suc e
     go false e = refl
 number_more k (x ∷ ss) s t = go (same_bytes x.bytes t.bytes) (number_more (suc k) ss s t)
@@ -65,16 +64,16 @@ number_more k (x ∷ ss) s t = go (same_bytes x.bytes t.bytes) (number_more (suc
     go : (b : Bool)
         → lookup_number (lookup_from (suc k) (ss ++ (s ∷ [])) t) ≡ or_else (lookup_number (lookup_from (suc k) ss t))
         (cond (same_bytes s.bytes t.bytes) (suc (suc k + length ss)) 0)
-        → lookup_number (cond b (At k) (lookup_from (suc k) (ss ++ (s ∷ [])) t))
-        ≡ or_else (lookup_number (cond b (At k) (lookup_from (suc k) ss t))) (cond (same_bytes s.bytes t.bytes) (suc (k + suc (length ss))) 0)
+        → lookup_number (cond b (Some k) (lookup_from (suc k) (ss ++ (s ∷ [])) t))
+        ≡ or_else (lookup_number (cond b (Some k) (lookup_from (suc k) ss t))) (cond (same_bytes s.bytes t.bytes) (suc (k + suc (length ss))) 0)
     go true e = refl
     go false e = e ∙ ap (λ (m : ℕ). or_else (lookup_number (lookup_from (suc k) ss t)) (cond (same_bytes s.bytes t.bytes) (suc m) 0)) z
 
 -- a name has a number where it is among those numbered
-numbered-among : (ss : List Token) (t : Token) (l : Lookup) → lookup_from 0 ss t ≡ l
+numbered-among : (ss : List Token) (t : Token) (l : Maybe ℕ) → lookup_from 0 ss t ≡ l
     → (lookup_number l ≡ 0 → is_among ss t ≡ false) × ((lookup_number l ≡ 0 → ⊥) → is_among ss t ≡ true)
-numbered-among ss t (At k) e = ((λ z. absurd (omega arith)), λ z. at-among 0 k ss t e)
-numbered-among ss t Missing e = ((λ z. missing-among 0 ss t e), λ z. absurd (z refl))
+numbered-among ss t (Some k) e = ((λ z. absurd (omega arith)), λ z. at-among 0 k ss t e)
+numbered-among ss t None e = ((λ z. missing-among 0 ss t e), λ z. absurd (z refl))
 
 -- ---- an index of no names
 
@@ -168,7 +167,7 @@ module _ (text table index index₁ : List ℕ) (i k p : ℕ) (entered : Enters 
     none-marked w = let h = m.older w in ne_eqb (m.mark w) (k + 1) (λ z. omega arith)
 
   module _ (has : word_at index₁ p 0 ≡ 0 → ⊥) where
-    pub known : Numbers text table index index₁ i k true
+    known : Numbers text table index index₁ i k true
     unfolding is_among
     known = record {
       again = λ ops m. sym ((numbered-among ops (token_at text table i) (lookup_from 0 ops (token_at text table i)) refl).1 (λ z. has (number-there m ∙ z)));
@@ -203,7 +202,7 @@ module _ (text table index index₁ : List ℕ) (i k p : ℕ) (entered : Enters 
         kept m t false e = zero-else (m.number t.bytes)
 
   module _ {index' : List ℕ} (lacks : word_at index₁ p 0 ≡ 0) (room : word_place p 0 < length index₁) (stored : index' ≡ set index₁ (word_place p 0) (k + 1)) where
-    pub added : Numbers text table index index' i k false
+    added : Numbers text table index index' i k false
     unfolding is_among
     added = record {
       again = λ ops m. sym ((numbered-among ops (token_at text table i) (lookup_from 0 ops (token_at text table i)) refl).0 (sym (number-there m) ∙ lacks));
@@ -236,16 +235,32 @@ module _ (text table index index₁ : List ℕ) (i k p : ℕ) (entered : Enters 
             z ∙ sym (ap (λ (x : ℕ). or_else x (suc (0 + l))) (alike m t.bytes e ∙ lacks))
         new m t l q false e = zero-else (m.number t.bytes)
 
+  -- its number is looked at, and set where it has none
+  module _ {r : Bool} {index' : List ℕ} (had : r ≡ not (eqb (word_at index₁ p 0) 0)) (room : word_place p 0 < length index₁)
+      (kept : index' ≡ kept_in index₁ p 0 (k + 1)) where
+    pub numbers : Numbers text table index index' i k r
+    numbers = by (eqb (word_at index₁ p 0) 0) refl
+      where
+        left : (b : Bool) → eqb (word_at index₁ p 0) 0 ≡ b → index' ≡ cond b (set index₁ (word_place p 0) (k + 1)) index₁
+        left b e = kept ∙ ap (λ (b : Bool). cond b (set index₁ (word_place p 0) (k + 1)) index₁) e
+
+        by : (b : Bool) → eqb (word_at index₁ p 0) 0 ≡ b → Numbers text table index index' i k r
+        by true e = subst (Numbers text table index index' i k) (sym (had ∙ ap not e)) (added (eqb-true _ 0 e) room (left true e))
+        by false e =
+            subst (Numbers text table index index' i k) (sym (had ∙ ap not e))
+            (subst (λ (l : List ℕ). Numbers text table index l i k true) (sym (left false e)) (known (eqb-false _ 0 e)))
+
 -- ---- what a look-up finds
 
 pub looked-up : {text table index : List ℕ} {n k r : ℕ} (hs : List Header) (t : Token) → LooksUp text table index t.bytes 0 r
     → Numbered text table index n k (map (λ (h : Header). h.name) hs) → r ≡ lookup_number (found hs t)
 looked-up hs t look m = look m.below (both m.number m.mark) m.mapped ∙ m.numbered t ∙ ap lookup_number (names-found hs t)
 
-pub found_none : (l : Lookup) → lookup_number l ≡ 0 → Missing ≡ l
-found_none (At k) e = absurd (omega arith)
-found_none Missing e = refl
+-- it is found where it is there, counted from 0
+pub found-none : (l : Maybe ℕ) → 0 ≡ lookup_number l → None ≡ l
+found-none None e = refl
+found-none (Some k) e = absurd (omega arith)
 
-pub found_some : (l : Lookup) (r : ℕ) → lookup_number l ≡ r → (r ≡ 0 → ⊥) → At (r - 1) ≡ l
-found_some (At k) r e h = let z : r - 1 ≡ k = omega arith in ap At z
-found_some Missing r e h = absurd (h (sym e))
+pub found-some : (l : Maybe ℕ) (k : ℕ) → k ≡ lookup_number l → 0 < k → Some (k - 1) ≡ l
+found-some None k e h = absurd (omega arith)
+found-some (Some j) k e h = let z : k - 1 ≡ j = omega arith in ap Some z

@@ -1,7 +1,7 @@
 -- The walk along a row: one item after another comes to the whole row. First what the items of any row come to, then one parameter, rows of parameters and of
 -- results. Relies on `RowFaults`, `NameMarks`, `Records` and `RowParses`.
 use mathlib.Core.Path.{◌≡◌, refl, sym, ap, ap₂, ◌∙◌}
-use mathlib.Core.Bool.{Bool, not}
+use mathlib.Core.Bool.{Bool, true, false, not}
 use mathlib.Core.List.{List, [], ◌∷◌, ◌++◌, map, append_assoc}
 use mathlib.Core.Option.{Option}
 use Prim.Native.Nat.{ℕ, suc, ◌+◌, ◌*◌, ◌<◌, ◌≤◌}
@@ -9,11 +9,11 @@ use native.Mathlib.Omega.{arith}
 use lib.Dec.{eqb}
 use lib.ListN.{length, length-append, get_or}
 use lib.Seq.{sets}
-use borrow.Author.Tests.{ne_eqb}
+use Rattle.std.specs.Prelude.{is_some as is_there, unwrap_or}
 use Rattle.lexis.specs.Sizes.{max_brackets, max_parameters, max_results}
 use Rattle.lexis.specs.Lexer.{Token}
 use Rattle.lexis.specs.Symbol.{comma}
-use Rattle.syntax.specs.Tree.{Value, Ty, Param}
+use Rattle.syntax.specs.Tree.{Ty, Param}
 use Rattle.syntax.specs.Parser.{type, param, typed_name, rest}
 use Rattle.syntax.specs.Parser.Parse.{ok}
 use Rattle.syntax.specs.Table.{start_at, token_at, toks}
@@ -28,7 +28,7 @@ use Rattle.lists.specs.Names.{is_among}
 use Rattle.lists.specs.Reading.{is_some, all_tensor}
 use Rattle.lists.specs.Masks.{mask_of, is_required}
 use Rattle.lists.specs.Types.{kinds_of, pairs_of, type_code, OfType}
-use Rattle.lists.specs.Directory.{first_parameter, parameter_words, DefaultAt, no_default, a-default, ParametersAt, no-parameter, a-parameter}
+use Rattle.lists.specs.Directory.{first_parameter, parameter_words, ParametersAt, no-parameter, a-parameter}
 use Rattle.lists.specs.Walks.{when}
 use Rattle.lists.specs.Headers.{Reads, param_row, result_row, Roomy, Ready, onward_row, Judge, row_faults, of_params, of_results, Marks, Judged, ParamsStored}
 use Rattle.lists.specs.Headers.{OfDefault, OfParameter, OfParameters, OfResult, OfResults, Carried}
@@ -112,11 +112,10 @@ two-tests b b₁ b₂ v w {p} {p'} {q} {q'} e f g h =
     f ∙ ap₂ (λ (o : Option Fault) (l : ℕ). earlier o (first (when w (fault 13 l)))) (e ∙ ap (λ (l : ℕ). earlier (meant b) (first (when v (fault 12 l)))) g) h
 
 -- the walk may go on behind an item that has taken three tokens
-pub ready-onward : {text table index index₁ : List ℕ} {n k : ℕ} {r r₁ : Row} → Ready text table index n k r → Walkable index₁ (r.at + 1) n
-    → r.at + 3 ≤ r₁.at → r₁.at < n → r₁.index ≡ r.index + 1 → r₁.params ≤ r.params + 1 → Ready text table index₁ n k (onward_row r₁)
+pub ready-onward : {text index index₁ : List ℕ} {n k : ℕ} {r r₁ : Row} → Ready text index n k r → Walkable index₁ (r.at + 1) n
+    → r.at + 3 ≤ r₁.at → r₁.at < n → r₁.index ≡ r.index + 1 → r₁.params ≤ r.params + 1 → Ready text index₁ n k (onward_row r₁)
 ready-onward ready walk far behind counted few = record {
   inside = omega arith;
-  held = ready.held;
   short = ready.short;
   small = ready.small;
   few = let f = ready.few in omega arith;
@@ -138,18 +137,18 @@ module _ (text table : List ℕ) (n i : ℕ) {j : ℕ} {us : List Token} (left :
 
 -- ---- one parameter
 
--- a parameter without default is one that is required
-required-is : {text table : List ℕ} {n d : ℕ} {o : Option Value} → DefaultAt text table n d o → eqb d 0 ≡ not (is_some o)
-required-is no_default = refl
-required-is (a-default {d = d} l e) = ne_eqb d 0 (λ z. omega arith)
+not-back : (a b : Bool) → a ≡ not b → b ≡ not a
+not-back a true e = ap not (sym e)
+not-back a false e = ap not (sym e)
 
 module _ {text table index index₁ words words₁ : List ℕ} {n k : ℕ} {r : Row} {again : Bool} {ty : TypeAt} {d : Default} {code required : ℕ} {best : Best}
     (marks : Marks text table index index₁ r.at k again) (typed : OfType text table n (r.at + 2) ty) (given : OfDefault text table n (r.at + 2) ty d)
     (coded : (u : Ty) → ty.kinds ≡ kinds_of u → ty.pairs ≡ pairs_of u
     → ty.tensor ≡ all_tensor u → code ≡ type_code u)
-    (stored : words₁ ≡ sets words (first_parameter + r.params * parameter_words) (r.at ∷ code ∷ d.at ∷ [])) (roomy : Roomy words n)
+    (stored : words₁ ≡ sets words (first_parameter + r.params * parameter_words) (r.at ∷ code ∷ unwrap_or d.at 0 ∷ [])) (roomy : Roomy words n)
     (few : 4 * r.params ≤ r.at) (inside : r.at + 4 ≤ n)
-    (flags : (bs : List Bool) → r.required ≡ mask_of bs → length bs ≡ r.index → r.index < max_parameters → required ≡ mask_of (bs ++ (eqb d.at 0 ∷ [])))
+    (lacks : Bool) (lacking : is_there d.at ≡ not lacks)
+    (flags : (bs : List Bool) → r.required ≡ mask_of bs → length bs ≡ r.index → r.index < max_parameters → required ≡ mask_of (bs ++ (lacks ∷ [])))
     (found : meant best
     ≡ earlier (earlier (earlier (meant r.best) (first (when (eqb r.index max_parameters) (fault 12 (start_at table r.at)))))
     (first (when again (fault 13 (start_at table r.at)))))
@@ -178,11 +177,11 @@ module _ {text table index index₁ words words₁ : List ℕ} {n k : ℕ} {r : 
               (ap (λ (x : Token). x.start) f.here) g.faulted);
           stored = record {
             count = refl;
-            records = a-parameter (parameter-stored text table n words words₁ r.params r.at code d.at stored room (omega arith) f.here t
+            records = a-parameter (parameter-stored text table n words words₁ r.params r.at code (unwrap_or d.at 0) stored room (omega arith) f.here t
                 (coded p.ty is.kinds is.pairs is.tensor) g.place) no-parameter;
-            kept = λ x l. ap (λ (w : List ℕ). get_or w x 0) stored ∙ sets_below (r.at ∷ code ∷ d.at ∷ []) words
+            kept = λ x l. ap (λ (w : List ℕ). get_or w x 0) stored ∙ sets_below (r.at ∷ code ∷ unwrap_or d.at 0 ∷ []) words
                 (first_parameter + r.params * parameter_words) x l;
-            flags = λ bs m l s. flags bs m l (omega arith) ∙ ap (λ (b : Bool). mask_of (bs ++ (b ∷ []))) (required-is g.place);
+            flags = λ bs m l s. flags bs m l (omega arith) ∙ ap (λ (b : Bool). mask_of (bs ++ (b ∷ []))) (not-back (is_some p.default) lacks (sym g.given ∙ lacking));
           };
         }
 
@@ -237,7 +236,7 @@ module _ {text table index index₁ words words₁ : List ℕ} {n k : ℕ} {r r�
       }
 
 -- the walk over parameters goes on
-module _ {text table index : List ℕ} {n k : ℕ} {r : Row} (ready : Ready text table index n k r) (reads : Reads param_row text table n r.at) where
+module _ {text table index : List ℕ} {n k : ℕ} {r : Row} (ready : Ready text index n k r) (reads : Reads param_row text table n r.at) where
   -- four tokens are left
   pub parameter-inside : r.at + 4 ≤ n
   parameter-inside =
@@ -256,7 +255,7 @@ module _ {text table index : List ℕ} {n k : ℕ} {r : Row} (ready : Ready text
           (first_of text table n r₁.at b.mark b.behind (sym o.left)).inside,
         )
 
-    pub parameter-ready : Ready text table index₁ n k (onward_row r₁)
+    pub parameter-ready : Ready text index₁ n k (onward_row r₁)
     parameter-ready =
         let b = begins (param max_brackets) (param-shrinks max_brackets) text table n r.at reads.is in
         let o = one b.one (b.mark ∷ b.behind) b.read in
@@ -282,7 +281,7 @@ module _ {text table index index₁ : List ℕ} {n k : ℕ} {r r₁ : Row} (one 
       let m = all g.others us g.more in
       record { left = m.left; judged = rw g.is (judged-more of_results text table k o.judged m.judged) }
 
-module _ {text table index : List ℕ} {n k : ℕ} {r : Row} (ready : Ready text table index n k r) (reads : Reads result_row text table n r.at) where
+module _ {text table index : List ℕ} {n k : ℕ} {r : Row} (ready : Ready text index n k r) (reads : Reads result_row text table n r.at) where
   pub result-inside : r.at < n
   result-inside =
       let b = begins (typed_name max_brackets) (result-shrinks max_brackets) text table n r.at reads.is in
@@ -299,7 +298,7 @@ module _ {text table index : List ℕ} {n k : ℕ} {r : Row} (ready : Ready text
           (first_of text table n r₁.at b.mark b.behind (sym o.left)).inside,
         )
 
-    pub result-ready : Ready text table index₁ n k (onward_row r₁)
+    pub result-ready : Ready text index₁ n k (onward_row r₁)
     result-ready =
         let b = begins (typed_name max_brackets) (result-shrinks max_brackets) text table n r.at reads.is in
         let o = one b.one (b.mark ∷ b.behind) b.read in
@@ -340,7 +339,7 @@ module _ {text table index index₁ : List ℕ} {n k : ℕ} {r : Row} {again : B
 
 -- what the loop over parameters knows: from here it may go on, and what the rest comes to gives what the whole row comes to
 pub record ParametersFrom (text table : List ℕ) (n k : ℕ) (index₀ words₀ : List ℕ) (r₀ : Row) (index words : List ℕ) (r : Row) : Type 0 where
-  pub ready : Ready text table index n k r
+  pub ready : Ready text index n k r
   pub roomy : Roomy words n
   pub index-size : length index ≡ length index₀
   pub words_size : length words ≡ length words₀
@@ -348,7 +347,7 @@ pub record ParametersFrom (text table : List ℕ) (n k : ℕ) (index₀ words₀
   pub back : (index' words' : List ℕ) (r' : Row) → OfParameters text table index index' words words' n k r r'
       → OfParameters text table index₀ index' words₀ words' n k r₀ r'
 
-pub params-start : {text table index words : List ℕ} {n k : ℕ} {r : Row} → Ready text table index n k r → Roomy words n → Reads param_row text table n r.at
+pub params-start : {text table index words : List ℕ} {n k : ℕ} {r : Row} → Ready text index n k r → Roomy words n → Reads param_row text table n r.at
     → ParametersFrom text table n k index words r index words r
 params-start a b c = record { ready = a; roomy = b; index-size = refl; words_size = refl; reads = c; back = λ i w x h. h }
 
@@ -371,7 +370,7 @@ module _ {text table : List ℕ} {n k : ℕ} {index₀ words₀ : List ℕ} {r�
     }
 
     pub params-done : {x : ℕ} → x ≡ lookahead (toks text table n r₁.at) → (x ≡ comma → ⊥)
-        → Ready text table index₁ n k (onward_row r₁) × OfParameters text table index₀ index₁ words₀ words₁ n k r₀ (onward_row r₁)
+        → Ready text index₁ n k (onward_row r₁) × OfParameters text table index₀ index₁ words₀ words₁ n k r₀ (onward_row r₁)
     params-done e q =
         (parameter-ready inv.ready inv.reads one walk, inv.back index₁ words₁ (onward_row r₁) (parameters-last one (λ z. q (e ∙ z))))
 
@@ -380,13 +379,13 @@ module _ {text table : List ℕ} {n k : ℕ} {index₀ words₀ : List ℕ} {r�
 
 -- and the loop over results
 pub record ResultsFrom (text table : List ℕ) (n k : ℕ) (index₀ : List ℕ) (r₀ : Row) (index : List ℕ) (r : Row) : Type 0 where
-  pub ready : Ready text table index n k r
+  pub ready : Ready text index n k r
   pub reads : Reads result_row text table n r.at
   pub size : length index ≡ length index₀
   pub same : Carried r₀ r
   pub back : (index' : List ℕ) (r' : Row) → OfResults text table index index' n k r r' → OfResults text table index₀ index' n k r₀ r'
 
-pub results-start : {text table index : List ℕ} {n k : ℕ} {r : Row} → Ready text table index n k r → Reads result_row text table n r.at
+pub results-start : {text table index : List ℕ} {n k : ℕ} {r : Row} → Ready text index n k r → Reads result_row text table n r.at
     → ResultsFrom text table n k index r index r
 results-start a c = record { ready = a; reads = c; size = refl; same = record { params = refl; required = refl }; back = λ i x h. h }
 
@@ -407,7 +406,7 @@ module _ {text table : List ℕ} {n k : ℕ} {index₀ : List ℕ} {r₀ : Row} 
     }
 
     pub results-done : {x : ℕ} → x ≡ lookahead (toks text table n r₁.at) → (x ≡ comma → ⊥)
-        → Ready text table index₁ n k (onward_row r₁) × (Carried r₀ (onward_row r₁) × OfResults text table index₀ index₁ n k r₀ (onward_row r₁))
+        → Ready text index₁ n k (onward_row r₁) × (Carried r₀ (onward_row r₁) × OfResults text table index₀ index₁ n k r₀ (onward_row r₁))
     results-done e q =
         (result-ready inv.ready inv.reads one walk same, (carried, inv.back index₁ (onward_row r₁) (results-last one (λ z. q (e ∙ z)))))
 

@@ -1,7 +1,7 @@
 -- A type's number and its parts: each is found again, no type has the number of several results, and only tensor that of tensor. Assumes nothing.
 use mathlib.Core.Path.{◌≡◌, refl, sym, ap, ◌∙◌}
 use mathlib.Core.Bool.{Bool, true, false}
-use Prim.Native.Nat.{ℕ, ◌+◌, ◌*◌, ◌/◌, ◌%◌, ◌<◌, ◌≤◌}
+use Prim.Native.Nat.{ℕ, ◌+◌, ◌*◌, ◌/◌, ◌%◌, ◌<◌}
 use native.Mathlib.Omega.{arith}
 use lib.Dec.{eqb}
 use Rattle.syntax.specs.Tree.{Ty}
@@ -9,6 +9,7 @@ use Rattle.syntax.specs.Tree.Ty.{tensor, extent, scalar, logical, string, array_
 use Rattle.lists.specs.Reading.{all_tensor}
 use Rattle.lists.specs.Masks.{bit}
 use Rattle.lists.specs.Types.{tensor_kinds, kinds_of, pairs_of, type_code, several}
+use Rattle.lists.proofs.Masks.{bit_le}
 
 kinds-even : (u : Ty) → (kinds_of u < 64) × (kinds_of u % 2 ≡ 0)
 unfolding kinds_of
@@ -19,10 +20,6 @@ kinds-even logical = (omega arith, refl)
 kinds-even string = (omega arith, refl)
 kinds-even (array_of u) = kinds-even u
 kinds-even (tuple_of us) = (omega arith, refl)
-
-pub bit_le : (b : Bool) → bit b ≤ 1
-bit_le true = omega arith
-bit_le false = omega arith
 
 bit-odd : (b : Bool) (k : ℕ) → b ≡ eqb ((bit b + 2 * k) % 2) 1
 bit-odd true k = let e : (1 + 2 * k) % 2 ≡ 1 = omega arith in simp e

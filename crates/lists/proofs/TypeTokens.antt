@@ -7,6 +7,7 @@ use Prim.Native.Nat.{ℕ, zero, suc, ◌+◌, ◌-◌, ◌*◌, ◌≤◌, ◌<�
 use native.Mathlib.Numerals.{add-one}
 use native.Mathlib.Omega.{arith}
 use lib.Dec.{eqb}
+use Rattle.std.specs.Int.{from_bool}
 use borrow.Author.Tests.{eq-eqb, ne_eqb}
 use Rattle.lexis.specs.Lexer.{Token}
 use Rattle.lexis.specs.Symbol.{sym_of, left_round, right_round, left_square, right_square, comma, tensor_word, extent_word, scalar_word, logical_word, string_word}
@@ -22,7 +23,6 @@ use Rattle.syntax.specs.Parser.{rest, type}
 use Rattle.syntax.specs.Parser.Parse.{ok}
 use Rattle.syntax.specs.Table.{token_at, toks}
 use Rattle.syntax.specs.Inner.{lookahead}
-use Rattle.syntax.proofs.Row.{cond_has}
 use Rattle.syntax.proofs.Complete.{type-complete}
 use Rattle.syntax.proofs.Table.{toks-none, toks_more, toks-rest}
 use Rattle.syntax.proofs.Symbols.{begins-look}
@@ -299,13 +299,18 @@ dims-pair (a_pair e f d) n h = pair refl d
 
 -- ---- places of a table
 
-pub opens-le : (s : ℕ) → rounds_opened s ≤ 1
-unfolding rounds_opened
-opens-le s = cond_has (λ (z : ℕ). z ≤ 1) (eqb s left_round) (omega arith) (omega arith)
+-- a bracket counted as the code counts it
+counted : (p : Bool) → from_bool p ≡ cond p 1 0
+counted true = refl
+counted false = refl
 
-pub closes-le : (s : ℕ) → rounds_closed s ≤ 1
+pub opens : (s : ℕ) → from_bool (eqb s left_round) ≡ rounds_opened s
+unfolding rounds_opened
+opens s = counted (eqb s left_round)
+
+pub closes : (s : ℕ) → from_bool (eqb s right_round) ≡ rounds_closed s
 unfolding rounds_closed
-closes-le s = cond_has (λ (z : ℕ). z ≤ 1) (eqb s right_round) (omega arith) (omega arith)
+closes s = counted (eqb s right_round)
 
 module _ (text table : List ℕ) (n : ℕ) where
   -- the walk at the end of the tokens

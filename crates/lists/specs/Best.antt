@@ -1,15 +1,23 @@
--- The first fault that a walk has met, as the code holds it: with the code of acceptance there is none.
-use Rattle.std.specs.Prelude.{cond, eqb}
+-- The first fault that a walk has met, as the code holds it.
+use Rattle.std.specs.Prelude.{Option as Maybe, Some, None}
 use Rattle.std.proofs.Math.Option.{Option, some, none as nothing}
-use Rattle.lexis.specs.Code as Code
+use Rattle.lexis.specs.Refusal.{refusal_number}
 use Rattle.lists.specs.Fault.{Fault}
+use Rattle.lists.specs.declared.best.Fault.{Fault as Found}
 use Rattle.lists.specs.declared.best.Best.{Best}
 
+-- no fault
 abbrev pub clean : Best
-clean = record { at = 0; code = Code.accepted; detail = 0 }
+clean = record { fault = None }
 
-abbrev pub fault_of : Best → Fault
-fault_of b = record { at = b.at; code = b.code; detail = b.detail }
+-- a fault of the code, by the number of its refusal
+abbrev pub fault_of : Found → Fault
+fault_of f = record { at = f.at; code = refusal_number f.refusal; detail = f.detail }
+
+-- the fault, where there is one
+abbrev pub meant_by : Maybe Found → Option Fault
+meant_by None = nothing
+meant_by (Some f) = some (fault_of f)
 
 unfoldable pub meant : Best → Option Fault
-meant b = cond (eqb b.code Code.accepted) nothing (some (fault_of b))
+meant b = meant_by b.fault

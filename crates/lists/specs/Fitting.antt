@@ -1,6 +1,6 @@
 -- What only the contracts of `types` and `fitting` cite: leaves by their kinds, the base of a type and its pairs of square brackets, types in
 -- a row, a flat walk over a tuple type, and what an answer of the walks over two tables says.
-use Rattle.std.specs.Prelude.{◌≡◌, ℕ, zero, suc, ◌+◌, ◌-◌, ◌*◌, ◌<◌, ◌≤◌, Bool, true, false, cond, not, ◌&&◌, ◌||◌, List, [], ◌∷◌, eqb, leb, ltb, drop}
+use Rattle.std.specs.Prelude.{◌≡◌, ℕ, zero, suc, ◌+◌, ◌-◌, ◌*◌, ◌<◌, ◌≤◌, Bool, true, false, cond, ◌&&◌, ◌||◌, List, [], ◌∷◌, eqb, leb, ltb, drop}
 use Rattle.lexis.specs.Number.{value_from, signed}
 use Rattle.lexis.specs.Lexer.{Token}
 use Rattle.lexis.specs.Symbol.{sym_of, left_round, right_round, left_square, right_square, equal, comma, minus, a_name, a_literal, extent_word}
@@ -16,6 +16,7 @@ use Rattle.syntax.specs.Inner.{lookahead}
 use Rattle.lists.specs.Reading.{is_extent, is_some, read_all, read_each, fits, all_tensor, result_type}
 use Rattle.lists.specs.Types.{extent_kinds, takes, kinds_of, pairs_of, result_code}
 use Rattle.lists.specs.declared.types.Span.{Span}
+use Rattle.std.specs.Prelude.{Option as Maybe, Some, None, is_some as is_there}
 
 -- ---- leaves
 
@@ -127,35 +128,36 @@ fits_all vs u = is_some (read_all vs u)
 unfoldable pub fits_each : Values → Tys → Bool
 fits_each vs us = is_some (read_each vs us)
 
--- an answer r lies past i, unless it is 0, and not past n
-pub record Within (n i r : ℕ) : Type 0 where
-  pub past : 0 < r → i < r
-  pub inside : r ≤ n
+-- an answer lies past i and not past n
+pub record Within (n i : ℕ) (r : Maybe ℕ) : Type 0 where
+  pub past : {j : ℕ} → r ≡ Some j → i < j
+  pub inside : {j : ℕ} → r ≡ Some j → j ≤ n
 
--- an answer r to a question p about what stands before the tokens us: 0 where it does not hold, and the place after it where it does
-pub record Fitted (text table : List ℕ) (n : ℕ) (p : Bool) (us : List Token) (r : ℕ) : Type 0 where
-  pub misfit : r ≡ 0 → p ≡ false
-  pub fit : 0 < r → p ≡ true
-  pub ends : 0 < r → us ≡ toks text table n r
+-- an answer to a question p about what stands before the tokens us: none where it does not hold, and the place after it where it does
+pub record Fitted (text table : List ℕ) (n : ℕ) (p : Bool) (us : List Token) (r : Maybe ℕ) : Type 0 where
+  pub misfit : r ≡ None → p ≡ false
+  pub fit : {j : ℕ} → r ≡ Some j → p ≡ true
+  pub ends : {j : ℕ} → r ≡ Some j → us ≡ toks text table n j
 
--- the answer is not 0; it is not, and `=` follows
-abbrev pub is_fit : ℕ → Bool
-is_fit r = not (eqb r 0)
+-- there is an answer; there is, and `=` follows
+abbrev pub is_fit : Maybe ℕ → Bool
+is_fit r = is_there r
 
-abbrev pub is_whole : List ℕ → List ℕ → ℕ → ℕ → Bool
-is_whole text table n r = is_fit r && eqb (lookahead (toks text table n r)) equal
+abbrev pub is_whole : List ℕ → List ℕ → ℕ → Maybe ℕ → Bool
+is_whole text table n None = false
+is_whole text table n (Some r) = eqb (lookahead (toks text table n r)) equal
 
 -- the answer for the leaf at place i, with a sign before it or without one, against a word of these kinds under k pairs
-abbrev pub leaf_answer : List ℕ → List ℕ → ℕ → ℕ → ℕ → Bool → ℕ
-leaf_answer text table i kinds k negative = cond (eqb k 0) (cond (leaf_fits_at text table i kinds negative) (i + 1) 0) 0
+abbrev pub leaf_answer : List ℕ → List ℕ → ℕ → ℕ → ℕ → Bool → Maybe ℕ
+leaf_answer text table i kinds k negative = cond (eqb k 0) (cond (leaf_fits_at text table i kinds negative) (Some (i + 1)) None) None
 
 -- the answer for what begins at place i with the terminal s: a leaf, or a sign and the number after it
-abbrev pub signed_answer : List ℕ → List ℕ → ℕ → ℕ → ℕ → ℕ → ℕ → ℕ
+abbrev pub signed_answer : List ℕ → List ℕ → ℕ → ℕ → ℕ → ℕ → ℕ → Maybe ℕ
 signed_answer text table n i s kinds k =
-    cond (eqb s minus) (cond (leb n (i + 1)) 0 (leaf_answer text table (i + 1) kinds k true)) (leaf_answer text table i kinds k false)
+    cond (eqb s minus) (cond (leb n (i + 1)) None (leaf_answer text table (i + 1) kinds k true)) (leaf_answer text table i kinds k false)
 
 -- whatever value and type are read at place i and before ts, of these kinds and pairs, r answers whether the one fits the other
-abbrev pub OfItem : List ℕ → List ℕ → ℕ → ℕ → List Token → ℕ → ℕ → ℕ → Type 0
+abbrev pub OfItem : List ℕ → List ℕ → ℕ → ℕ → List Token → ℕ → ℕ → Maybe ℕ → Type 0
 OfItem text table n i ts kinds pairs r =
     (m : Leaves) (b : ℕ) (v : Value) (us : List Token) (c : ℕ) (u : Ty) (ws : List Token) → value m b (toks text table n i) ≡ ok v us → type c ts ≡ ok u ws
     → kinds ≡ kinds_of u → pairs ≡ pairs_of u → Fitted text table n (fits v u) us r
@@ -166,19 +168,19 @@ pub record BaseOf (kinds c : ℕ) (ts : List Token) (w : Ty) (ws : List Token) :
   pub takes : kinds ≡ kinds_of w
 
 -- the value at place i fits the base that begins ts, under k pairs
-abbrev pub OfValue : List ℕ → List ℕ → ℕ → ℕ → List Token → ℕ → ℕ → ℕ → Type 0
+abbrev pub OfValue : List ℕ → List ℕ → ℕ → ℕ → List Token → ℕ → ℕ → Maybe ℕ → Type 0
 OfValue text table n i ts kinds k r =
     (m : Leaves) (b : ℕ) (v : Value) (us : List Token) (c : ℕ) (w : Ty) (ws : List Token) → Spells m b (toks text table n i) v us → BaseOf kinds c ts w ws
     → Fitted text table n (fits v (stacked k w)) us r
 
 -- the items of an array from place i on fit it
-abbrev pub OfArray : List ℕ → List ℕ → ℕ → ℕ → List Token → ℕ → ℕ → ℕ → Type 0
+abbrev pub OfArray : List ℕ → List ℕ → ℕ → ℕ → List Token → ℕ → ℕ → Maybe ℕ → Type 0
 OfArray text table n i ts kinds k r =
     (m : Leaves) (b : ℕ) (vs : Values) (us : List Token) (c : ℕ) (w : Ty) (ws : List Token) → InArray m b (toks text table n i) vs us → BaseOf kinds c ts w ws
     → Fitted text table n (fits_all vs (stacked k w)) us r
 
 -- the items from place i on, up to the terminal `close`, fit the columns that begin ts
-abbrev pub OfEach : List ℕ → List ℕ → ℕ → ℕ → ℕ → List Token → ℕ → ℕ → Type 0
+abbrev pub OfEach : List ℕ → List ℕ → ℕ → ℕ → ℕ → List Token → ℕ → Maybe ℕ → Type 0
 OfEach text table n i close ts lead r =
     (m : Leaves) (b : ℕ) (vs : Values) (us : List Token) (c : ℕ) (cs : Tys) (ws : List Token) → Items m close b (toks text table n i) vs us
     → Columns lead c ts cs ws

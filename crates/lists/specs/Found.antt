@@ -5,8 +5,7 @@ use Rattle.spellings.specs.Comparison.{same_bytes}
 use Rattle.lexis.specs.Lexer.{Token}
 use Rattle.syntax.specs.Tree.{Header}
 use Rattle.lists.specs.Reading.{is_some}
-use Rattle.lists.specs.declared.directory.Lookup.{Lookup}
-use Rattle.lists.specs.declared.directory.Lookup.TheVariants.{At, Missing}
+use Rattle.std.specs.Prelude.{Option as Maybe, Some, None}
 
 -- the declared operation of a name
 unfoldable pub operation_of : List Header → List ℕ → Option Header
@@ -23,5 +22,5 @@ index_of [] t = 0
 index_of (h ∷ hs) t = let r = suc (index_of hs t) in cond (same_bytes h.name.bytes t.bytes) 0 r
 
 -- the index of the declared operation of a name, where there is one
-unfoldable pub found : List Header → Token → Lookup
-found hs t = cond (is_some (find hs t)) (At (index_of hs t)) Missing
+unfoldable pub found : List Header → Token → Maybe ℕ
+found hs t = cond (is_some (find hs t)) (Some (index_of hs t)) None

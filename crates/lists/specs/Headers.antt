@@ -9,16 +9,19 @@ use Rattle.lexis.specs.Symbol.{right_round}
 use Rattle.syntax.specs.Tree.{Value, Ty, Param, Result, Header}
 use Rattle.syntax.specs.Parser.{Reader, plain, commas, row, type, default, param, typed_name, header, operations}
 use Rattle.syntax.specs.Parser.Parse.{ok}
-use Rattle.syntax.specs.Table.{token_at, toks, Holds}
+use Rattle.syntax.specs.Table.{token_at, toks}
+use Rattle.syntax.specs.declared.tokens.Tokens.{Tokens}
 use Rattle.index.specs.Indexed.{Walkable}
 use Rattle.index.specs.Mapped.{Mapped, both}
 use Rattle.lists.specs.Code as Code
 use Rattle.lists.specs.Fault.{Fault, fault, earlier, first}
 use Rattle.lists.specs.Best.{meant}
 use Rattle.lists.specs.Names.{is_among}
+use Rattle.lists.specs.Reading.{is_some}
 use Rattle.lists.specs.ListRules.{bad_default}
 use Rattle.lists.specs.Masks.{mask_of, is_required}
 use Rattle.lists.specs.Directory.{first_parameter, operation_words, operation_word, parameter_words, DefaultAt, ParametersAt, OperationAt, OperationsAt}
+use Rattle.lists.specs.Found.{found}
 use Rattle.lists.specs.Lists.{header_faults, lookup_from}
 use Rattle.lists.specs.Walks.{when}
 use Rattle.lists.specs.declared.headers.Row.{Row}
@@ -27,8 +30,7 @@ use Rattle.lists.specs.declared.headers.Ruled.{Ruled}
 use Rattle.lists.specs.declared.best.Best.{Best}
 use Rattle.lists.specs.declared.types.TypeAt.{TypeAt}
 use Rattle.lists.specs.Types.{TypeIs}
-use Rattle.lists.specs.declared.directory.Lookup.{Lookup}
-use Rattle.lists.specs.declared.directory.Lookup.TheVariants.{At, Missing}
+use Rattle.std.specs.Prelude.{Option as Maybe, Some, None, is_some as is_there, unwrap_or}
 
 -- ---- what the walk relies on
 
@@ -51,8 +53,7 @@ pub record Roomy (words : List ℕ) (n : ℕ) : Type 0 where
 
 -- the walk may go on at the place of a row: each parameter has taken four tokens, each item of the row and each of the k headers one, and the names entered
 -- stand before it
-pub record Ready (text table index : List ℕ) (n k : ℕ) (r : Row) : Type 0 where
-  pub held : Holds text table n
+pub record Ready (text index : List ℕ) (n k : ℕ) (r : Row) : Type 0 where
   pub short : length text ≤ max_text
   pub small : n ≤ max_tokens
   pub inside : r.at ≤ n
@@ -102,9 +103,9 @@ of_headers = record { size = max_operations; place = λ h. h.keyword.start; name
 -- ---- names
 
 -- a number for what a look-up answers, counted from 1
-abbrev pub lookup_number : Lookup → ℕ
-lookup_number (At k) = suc k
-lookup_number Missing = 0
+abbrev pub lookup_number : Maybe ℕ → ℕ
+lookup_number (Some k) = suc k
+lookup_number None = 0
 
 -- an index of names that stand before a place: the number of a name is that of the first of the operations named so, its mark is that of a header up to k
 pub record Numbered (text table index : List ℕ) (at k : ℕ) (ops : List Token) : Type 0 where
@@ -115,6 +116,11 @@ pub record Numbered (text table index : List ℕ) (at k : ℕ) (ops : List Token
   pub mapped : Mapped text table index below (both number mark)
   pub numbered : (t : Token) → number t.bytes ≡ lookup_number (lookup_from 0 ops t)
   pub older : (w : List ℕ) → mark w ≤ k
+
+-- r is the number of the operation of a list that a token names, by an index of the names of all its operations
+abbrev pub FindsIn : Tokens → List ℕ → Token → Maybe ℕ → Type 0
+FindsIn list index t r =
+    (k : ℕ) (hs : List Header) → Numbered list.text.now list.table.now index list.count k (map (λ (h : Header). h.name) hs) → r ≡ found hs t
 
 -- and it is k for the names ss
 pub record Names (text table index : List ℕ) (at k : ℕ) (ops ss : List Token) : Type 0 where
@@ -153,7 +159,8 @@ pub record ParamsStored (text table words words' : List ℕ) (n : ℕ) (r r' : R
 -- the default o, which leaves us, of a parameter of type u
 pub record DefaultIs (text table : List ℕ) (n : ℕ) (u : Ty) (o : Option Value) (us : List Token) (r : Default) : Type 0 where
   pub left : us ≡ toks text table n r.end
-  pub place : DefaultAt text table n r.at o
+  pub given : is_there r.at ≡ is_some o
+  pub place : DefaultAt text table n (unwrap_or r.at 0) o
   pub faulted : meant r.best ≡ first (bad_default u o)
 
 abbrev pub OfDefault : List ℕ → List ℕ → ℕ → ℕ → TypeAt → Default → Type 0

@@ -9,8 +9,7 @@ use Rattle.lists.specs.Code as Code
 use Rattle.lists.specs.Fault.{Fault, faults, starts}
 use Rattle.lists.specs.Names.{repeats}
 use Rattle.lists.specs.ListRules.{over, param_names, header_names, bad_default}
-use Rattle.lists.specs.declared.directory.Lookup.{Lookup}
-use Rattle.lists.specs.declared.directory.Lookup.TheVariants.{At, Missing}
+use Rattle.std.specs.Prelude.{Option as Maybe, Some, None}
 
 -- ---- one header
 
@@ -31,6 +30,6 @@ header_faults h =
 -- ---- look-up
 
 -- where the first token of these bytes stands, the first of the list at place k
-unfoldable pub lookup_from : ℕ → List Token → Token → Lookup
-lookup_from k [] t = Missing
-lookup_from k (s ∷ ss) t = let r = lookup_from (suc k) ss t in cond (same_bytes s.bytes t.bytes) (At k) r
+unfoldable pub lookup_from : ℕ → List Token → Token → Maybe ℕ
+lookup_from k [] t = None
+lookup_from k (s ∷ ss) t = let r = lookup_from (suc k) ss t in cond (same_bytes s.bytes t.bytes) (Some k) r

@@ -1,5 +1,5 @@
 -- What the stages of an operation list come to, and what they leave: a table in the work area, and the directory of its operations.
-use Rattle.std.specs.Prelude.{ℕ, ◌≤◌, ◌≡◌, List, [], map, length, replicate}
+use Rattle.std.specs.Prelude.{ℕ, ◌≤◌, ◌≡◌, List, [], map, length, replicate, Result, Ok, Err}
 use Rattle.lexis.specs.Sizes.{max_tokens}
 use Rattle.lexis.specs.Lexer.{accepted, lex}
 use Rattle.syntax.specs.Tree.{Header}
@@ -13,8 +13,8 @@ use Rattle.index.specs.Indexed.{Walkable}
 use Rattle.lists.specs.Directory.{OperationsAt}
 use Rattle.lists.specs.Headers.{Roomy, Numbered}
 use Rattle.lists.specs.Answer.{pass, stop, rules_stage, list_stages}
+use Rattle.lexis.specs.declared.Answer.{Answer}
 use Rattle.lists.specs.declared.list.Listed.{Listed}
-use Rattle.lists.specs.declared.list.Listed.TheVariants.{Passed, Stopped}
 
 -- the tokens of the text stand in the table, and they are a list; its rules are the stage that is left
 pub record ListRead (text work : List ℕ) (n : ℕ) : Type 0 where
@@ -46,6 +46,6 @@ pub record ListPassed (text work index words : List ℕ) (n k : ℕ) : Type 0 wh
   pub names : Numbered text work index n k (map (λ (h : Header). h.name) headers)
 
 -- what the stages come to
-abbrev pub ListDone : List ℕ → List ℕ → List ℕ → List ℕ → Listed → Type 0
-ListDone text work index words (Passed n k) = ListPassed text work index words n k
-ListDone text work index words (Stopped r) = list_stages text ≡ stop r
+abbrev pub ListDone : List ℕ → List ℕ → List ℕ → List ℕ → Result Listed Answer → Type 0
+ListDone text work index words (Ok l) = ListPassed text work index words l.tokens l.operations
+ListDone text work index words (Err r) = list_stages text ≡ stop r

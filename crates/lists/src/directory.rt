@@ -1,19 +1,19 @@
 // The directory of a list, in words: a record for each operation and, behind all of these, one for each parameter of the list, in declared order. The names of
 // the list stand in an index, where each has two words.
-ghost use Rattle.std.specs.Prelude.{◌≡◌, List, ◌∷◌, [], map, ℕ, ◌+◌, ◌*◌, ◌<◌, ◌≤◌, cond, ltb, length};
+// Words and no structs: the memory is fixed, of the size that `Room` gives, and no reference may be kept in it.
+ghost use Rattle.std.specs.Prelude.{◌≡◌, ◌∷◌, [], ◌+◌, ◌*◌, ◌<◌, ◌≤◌, cond, ltb, length};
 ghost use Rattle.std.proofs.lemmas.List.Edits.{sets};
 ghost use Rattle.lexis.specs.Sizes.{max_operations};
-ghost use Rattle.syntax.specs.Tree.{Header};
-ghost use Rattle.syntax.specs.Table.{token_at, Holds};
+ghost use Rattle.syntax.specs.Table.{token_at};
 ghost use Rattle.index.specs.Indexed.{Walkable};
-ghost use Rattle.lists.specs.Found.{found};
-ghost use Rattle.lists.specs.Headers.{Numbered};
+ghost use Rattle.lists.specs.Headers.{FindsIn};
 ghost use Rattle.lists.specs.Directory.{operation_words, parameter_words, first_parameter};
 
 use index::layout::Layout;
 use index::look_up;
 use index::token::bytes_at;
 use lexis::limits::Limits;
+use syntax::tokens::Tokens;
 
 // The words of an operation's record: the place of its name, the number of its first parameter and that after its last, the mask of its parameters without a
 // default, the place of its first result, the number of that result's type or `SEVERAL`.
@@ -71,7 +71,7 @@ impl Room {
 }
 
 // The words of a name in the index: the number of the operation of that name, and that of the last header with a parameter or result of that name. Both are
-// counted from 1, and 0 is none.
+// counted from 1; 0 in the words, which are lent, is none.
 #[derive(Clone, Copy)]
 pub struct Name {}
 
@@ -119,42 +119,12 @@ pub(crate) fn store_operation(
     words[at + 5] = res;
 }
 
-// Where an operation stands in the directory.
-#[derive(Clone, Copy)]
-pub enum Lookup {
-    At(usize),
-    Missing,
-}
-
-// The operation whose name is spelt as the token at place t of another table.
-pub fn find(
-    ltext: &[u8],
-    ltable: &[u32],
-    ln: usize,
-    index: &[u16],
-    dtext: &[u8],
-    dtable: &[u32],
-    dn: usize,
-    t: usize,
-) -> Lookup
-    requires holds { Holds ltext.now ltable.now ln }
-    requires walkable { Walkable index.now ln ln }
-    requires holds_2 { Holds dtext.now dtable.now dn }
-    requires t_lt_dn { t < dn }
-    ensures { (k : ℕ) (hs : List Header)
-        → Numbered ltext.now ltable.now index.now ln k (map (λ (h : Header). h.name) hs)
-        → result ≡ found hs (token_at dtext.now dtable.now t) }
+// The number of the operation whose name is spelt as the token at place t of another table.
+pub fn find(list: &Tokens<'_>, index: &[u16], doc: &Tokens<'_>, t: usize) -> Option<usize>
+    requires walkable { Walkable index.now list.now.count list.now.count }
+    requires t_lt_dn { t < doc.now.count }
+    ensures { FindsIn list.now index.now (token_at doc.now.text.now doc.now.table.now t) result }
 {
-    let k = look_up(
-        ltext,
-        ltable,
-        ln,
-        index,
-        bytes_at(dtext, dtable, dn, t),
-        Name::OPERATION,
-    );
-    if k == 0 {
-        return Lookup::Missing;
-    }
-    Lookup::At(k - 1)
+    let k = look_up(list, index, bytes_at(doc, t), Name::OPERATION)?;
+    Some(k - 1)
 }

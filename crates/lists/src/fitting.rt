@@ -1,13 +1,12 @@
 // Whether a value fits a type, and a left side the results of an operation. Value and type stand in two token tables.
-ghost use Rattle.std.specs.Prelude.{◌≡◌, true, false, cond, List, ℕ, suc, ◌+◌, ◌-◌, ◌<◌, ◌≤◌, leb};
-ghost use Rattle.lexis.specs.Ascii.{byte};
+ghost use Rattle.std.specs.Prelude.{◌≡◌, true, false, cond, List, ℕ, suc, ◌+◌, ◌-◌, ◌<◌, ◌≤◌, leb, get_or};
 ghost use Rattle.lexis.specs.Sizes.{max_extent};
 ghost use Rattle.lexis.specs.Number.{value_from, signed};
 ghost use Rattle.lexis.specs.Lexer.{Token};
 ghost use Rattle.lexis.specs.Symbol.{comma};
 ghost use Rattle.syntax.specs.Tree.{Ty, Tys};
 ghost use Rattle.syntax.specs.Tree.Ty.{tuple_of};
-ghost use Rattle.syntax.specs.Table.{toks, Holds};
+ghost use Rattle.syntax.specs.Tokens.{from};
 ghost use Rattle.syntax.specs.Inner.{the_end, lookahead};
 ghost use Rattle.lists.specs.Reading.{is_extent};
 ghost use Rattle.lists.specs.Fitting.{leaf_fits_at, is_leaf_symbol, starts_leaf, leaf_answer, signed_answer, stacked, Several, Columns, OfShape};
@@ -16,27 +15,12 @@ ghost use Rattle.lists.specs.Fitting.{Within, is_whole, OfItem, BaseOf, OfValue,
 use crate::types::{LeafKinds, SEVERAL, TENSOR, kinds_in, pairs_in, takes, type_of};
 use lexis::limits::Limits;
 use lexis::symbol::Symbol;
-use syntax::list::is_label;
-use syntax::symbol::symbol_at;
+use syntax::tokens::{Tokens, below_256};
 
-// The answer of the functions here is the place after the value where it fits, which is never 0, and 0 where not. Numbers cross a call in
-// a register, and these functions call each other for every bracket.
-const MISFIT: usize = 0;
+// The functions here answer the place after the value where it fits.
 
 // A number of fewer bytes fits an extent, whatever the bytes are.
 const SHORT: usize = 8;
-
-// The number of a digit.
-fn digit(b: u8) -> u64
-    ensures range { result < 256 }
-    ensures meaning { result ≡ b - byte "0" }
-{
-    if b < b'0' {
-        return 0;
-    }
-    let d = b - b'0';
-    d as u64
-}
 
 // The largest number that fits an extent after a sign, or without one.
 fn extent_bound(negative: bool) -> u64
@@ -54,13 +38,11 @@ fn is_at_most(w: &[u8], bound: u64) -> bool
     ensures { result ≡ leb (value_from 0 w.now) bound }
 {
     let mut v = 0;
-    let mut i = 0;
-    while i < w.len() {
-        v = v * 10 + digit(w[i]);
+    for &b in w {
+        v = v * 10 + u64::from(b.saturating_sub(b'0'));
         if bound < v {
             return false;
         }
-        i += 1;
     }
     true
 }
@@ -75,261 +57,187 @@ fn is_extent(w: &[u8], negative: bool) -> bool
     is_at_most(w, extent_bound(negative))
 }
 
-fn size(x: u32) -> usize
-    ensures { result ≡ x }
-{
-    x as usize
-}
-
 // Whether the leaf at place `at`, with a sign before it or without one, fits a type word of these kinds.
-fn leaf_fits(text: &[u8], table: &[u32], n: usize, at: usize, kinds: u32, negative: bool) -> bool
-    requires holds { Holds text.now table.now n }
-    requires at_lt_n { at < n }
-    ensures { result ≡ leaf_fits_at text.now table.now at kinds negative }
+fn leaf_fits(tokens: &Tokens<'_>, at: usize, kinds: u32, negative: bool) -> bool
+    requires { at < tokens.now.count }
+    ensures { result ≡ leaf_fits_at tokens.now.text.now tokens.now.table.now at kinds negative }
 {
     let i = at * Limits::RECORD_WORDS;
-    if !takes(kinds, table[i]) {
+    if !takes(kinds, tokens.table[i]) {
         return false;
     }
     if kinds != LeafKinds::EXTENT {
         return true;
     }
-    let start = size(table[i + 1]);
-    let end = size(table[i + 2]);
-    is_extent(&text[start..end], negative)
+    let start = tokens.table[i + 1] as usize;
+    let end = tokens.table[i + 2] as usize;
+    is_extent(&tokens.text[start..end], negative)
 }
 
 // Whether the terminal s is a leaf.
 pub fn is_leaf(s: u32) -> bool
     ensures { result ≡ is_leaf_symbol s }
 {
-    if s < Symbol::NAME {
-        return false;
-    }
-    s <= Symbol::LITERAL
+    Symbol::NAME <= s && s <= Symbol::LITERAL
 }
 
 // Whether the terminal s begins a leaf: it is one, or a sign.
 fn starts_leaf(s: u32) -> bool
     ensures { result ≡ starts_leaf s }
 {
-    if is_leaf(s) {
-        return true;
-    }
-    s == Symbol::MINUS
+    is_leaf(s) || s == Symbol::MINUS
 }
 
 // The leaf at place `at`, with a sign before it or without one, against a type word of these kinds under k pairs of square brackets.
-fn fits_leaf(
-    text: &[u8],
-    table: &[u32],
-    n: usize,
-    at: usize,
-    kinds: u32,
-    k: usize,
-    negative: bool,
-) -> usize
-    requires holds { Holds text.now table.now n }
-    requires at_lt_n { at < n }
-    ensures { result ≡ leaf_answer text.now table.now at kinds k negative }
+fn fits_leaf(tokens: &Tokens<'_>, at: usize, kinds: u32, k: usize, negative: bool) -> Option<usize>
+    requires { at < tokens.now.count }
+    ensures { result ≡ leaf_answer tokens.now.text.now tokens.now.table.now at kinds k negative }
 {
-    if k != 0 {
-        return MISFIT;
+    if k == 0 && leaf_fits(tokens, at, kinds, negative) {
+        return Some(at + 1);
     }
-    if leaf_fits(text, table, n, at, kinds, negative) {
-        return at + 1;
-    }
-    MISFIT
+    None
 }
 
 // The same for the leaf that begins at place `at` with the terminal s: where that is a sign, the number stands after it.
-fn fits_signed(
-    text: &[u8],
-    table: &[u32],
-    n: usize,
-    at: usize,
-    s: u32,
-    kinds: u32,
-    k: usize,
-) -> usize
-    requires holds { Holds text.now table.now n }
-    requires at_lt_n { at < n }
-    ensures { result ≡ signed_answer text.now table.now n at s kinds k }
+fn fits_signed(tokens: &Tokens<'_>, at: usize, s: u32, kinds: u32, k: usize) -> Option<usize>
+    requires { at < tokens.now.count }
+    ensures { result ≡ signed_answer tokens.now.text.now tokens.now.table.now tokens.now.count at s kinds k }
 {
     if s != Symbol::MINUS {
-        return fits_leaf(text, table, n, at, kinds, k, false);
+        return fits_leaf(tokens, at, kinds, k, false);
     }
-    if n <= at + 1 {
-        return MISFIT;
+    if tokens.count <= at + 1 {
+        return None;
     }
-    fits_leaf(text, table, n, at + 1, kinds, k, true)
+    fits_leaf(tokens, at + 1, kinds, k, true)
 }
 
-// Whether the terminals s and w are a and b.
+// Whether the terminals s and w are a and b. One test, so that a caller's check has two branches and not three.
 fn both(s: u32, a: u32, w: u32, b: u32) -> bool
     ensures yes { result ≡ true → (s ≡ a) × (w ≡ b) }
     ensures no { result ≡ false → s ≡ a → w ≡ b → ⊥ }
 {
-    if s != a {
-        return false;
-    }
-    w == b
+    s == a && w == b
 }
 
-// Whether the value at place v, which begins with the terminal s, fits the base at place t, of these kinds, under k pairs of square brackets.
-#[cycle(fits_array_fits_base_fits_each_fits_one)]
-fn fits_base(
-    vtext: &[u8],
-    vtable: &[u32],
-    vn: usize,
+// Whether the value at place v, which begins with the terminal s and no leaf, fits the base at place t, of these kinds, under k pairs of square
+// brackets.
+#[cycle(fits_array_fits_each_fits_nested_fits_one)]
+fn fits_nested(
+    values: &Tokens<'_>,
     v: usize,
     s: u32,
-    ttext: &[u8],
-    ttable: &[u32],
-    tn: usize,
+    types: &Tokens<'_>,
     t: usize,
     kinds: u32,
     k: usize,
-) -> usize
-    requires holds { Holds vtext.now vtable.now vn }
-    requires holds_2 { Holds ttext.now ttable.now tn }
-    requires s_value { s ≡ lookahead (toks vtext.now vtable.now vn v) }
-    ensures range { Within vn v result }
-    ensures meaning { OfValue vtext.now vtable.now vn v (toks ttext.now ttable.now tn t) kinds k result }
+) -> Option<usize>
+    requires { (s ≡ lookahead (from values.now v)) × (starts_leaf s ≡ false) }
+    ensures range { Within values.now.count v result }
+    ensures meaning { OfValue values.now.text.now values.now.table.now values.now.count v (from types.now t) kinds k result }
 {
     if s == Symbol::LEFT_SQUARE {
         if k == 0 {
-            return MISFIT;
+            return None;
         }
-        return fits_array(vtext, vtable, vn, v + 1, ttext, ttable, tn, t, kinds, k - 1);
-    }
-    if starts_leaf(s) {
-        return fits_signed(vtext, vtable, vn, v, s, kinds, k);
+        return fits_array(values, v + 1, types, t, kinds, k - 1);
     }
     if k != 0 {
-        return MISFIT;
+        return None;
     }
     if !both(
         s,
         Symbol::LEFT_ROUND,
-        symbol_at(ttext, ttable, tn, t),
+        types.symbol_at(t),
         Symbol::LEFT_ROUND,
     ) {
-        return MISFIT;
+        return None;
     }
     let close = Symbol::RIGHT_ROUND;
-    fits_each(vtext, vtable, vn, v + 1, close, ttext, ttable, tn, t + 1, 0)
+    fits_each(values, v + 1, close, types, t + 1, 0)
 }
 
-// The same, with a leaf settled apart from the functions that call each other: most items are leaves, and a call costs more than the test.
-#[cycle(fits_array_fits_base_fits_each_fits_one)]
+// Whether the value at place v fits the base at place t, of these kinds, under k pairs of square brackets. Most values are leaves.
+#[cycle(fits_array_fits_each_fits_nested_fits_one)]
 fn fits_one(
-    vtext: &[u8],
-    vtable: &[u32],
-    vn: usize,
+    values: &Tokens<'_>,
     v: usize,
-    ttext: &[u8],
-    ttable: &[u32],
-    tn: usize,
+    types: &Tokens<'_>,
     t: usize,
     kinds: u32,
     k: usize,
-) -> usize
-    requires holds { Holds vtext.now vtable.now vn }
-    requires holds_2 { Holds ttext.now ttable.now tn }
-    ensures range { Within vn v result }
-    ensures meaning { OfValue vtext.now vtable.now vn v (toks ttext.now ttable.now tn t) kinds k result }
+) -> Option<usize>
+    ensures range { Within values.now.count v result }
+    ensures meaning { OfValue values.now.text.now values.now.table.now values.now.count v (from types.now t) kinds k result }
 {
-    let s = symbol_at(vtext, vtable, vn, v);
-    if is_leaf(s) {
-        return fits_leaf(vtext, vtable, vn, v, kinds, k, false);
+    let s = values.symbol_at(v);
+    if starts_leaf(s) {
+        below_256(values.text);
+        return fits_signed(values, v, s, kinds, k);
     }
-    fits_base(vtext, vtable, vn, v, s, ttext, ttable, tn, t, kinds, k)
+    fits_nested(values, v, s, types, t, kinds, k)
 }
 
-// Whether the items of the array after its bracket at place v fit the base at place t under k pairs of square brackets. A leaf is settled in the
-// loop: what a call needs is copied at each turn.
-#[cycle(fits_array_fits_base_fits_each_fits_one)]
+// Whether the items of the array after its bracket at place v fit the base at place t under k pairs of square brackets.
+#[cycle(fits_array_fits_each_fits_nested_fits_one)]
 fn fits_array(
-    vtext: &[u8],
-    vtable: &[u32],
-    vn: usize,
+    values: &Tokens<'_>,
     v: usize,
-    ttext: &[u8],
-    ttable: &[u32],
-    tn: usize,
+    types: &Tokens<'_>,
     t: usize,
     kinds: u32,
     k: usize,
-) -> usize
-    requires holds { Holds vtext.now vtable.now vn }
-    requires holds_2 { Holds ttext.now ttable.now tn }
-    ensures range { Within vn v result }
-    ensures meaning { OfArray vtext.now vtable.now vn v (toks ttext.now ttable.now tn t) kinds k result }
+) -> Option<usize>
+    ensures range { Within values.now.count v result }
+    ensures meaning { OfArray values.now.text.now values.now.table.now values.now.count v (from types.now t) kinds k result }
 {
-    if symbol_at(vtext, vtable, vn, v) == Symbol::RIGHT_SQUARE {
-        return v + 1;
+    if values.symbol_at(v) == Symbol::RIGHT_SQUARE {
+        return Some(v + 1);
     }
+    // No `for`: the tokens say where the items end.
     let mut i = v;
     loop {
-        let c = symbol_at(vtext, vtable, vn, i);
-        let next = if starts_leaf(c) {
-            fits_signed(vtext, vtable, vn, i, c, kinds, k)
-        } else {
-            fits_base(vtext, vtable, vn, i, c, ttext, ttable, tn, t, kinds, k)
-        };
-        if next == MISFIT {
-            return MISFIT;
-        }
-        let s = symbol_at(vtext, vtable, vn, next);
+        let next = fits_one(values, i, types, t, kinds, k)?;
+        let s = values.symbol_at(next);
         if s == Symbol::RIGHT_SQUARE {
-            return next + 1;
+            return Some(next + 1);
         }
         if s != Symbol::COMMA {
-            return MISFIT;
+            return None;
         }
         i = next + 1;
     }
 }
 
 // Whether the items from place v up to the terminal `close` fit the types from place t up to a bracket, each after `lead` tokens.
-#[cycle(fits_array_fits_base_fits_each_fits_one)]
+#[cycle(fits_array_fits_each_fits_nested_fits_one)]
 fn fits_each(
-    vtext: &[u8],
-    vtable: &[u32],
-    vn: usize,
+    values: &Tokens<'_>,
     v: usize,
     close: u32,
-    ttext: &[u8],
-    ttable: &[u32],
-    tn: usize,
+    types: &Tokens<'_>,
     t: usize,
     lead: usize,
-) -> usize
-    requires holds { Holds vtext.now vtable.now vn }
-    requires holds_2 { Holds ttext.now ttable.now tn }
-    requires close_lt_the_end { (close < the_end) × (close ≡ comma → ⊥) × (t ≤ tn) × (lead ≤ 2) }
-    ensures range { Within vn v result }
-    ensures meaning { OfEach vtext.now vtable.now vn v close (toks ttext.now ttable.now tn t) lead result }
+) -> Option<usize>
+    requires { (close < the_end) × (close ≡ comma → ⊥) × (t ≤ types.now.count) × (lead ≤ 2) }
+    ensures range { Within values.now.count v result }
+    ensures meaning { OfEach values.now.text.now values.now.table.now values.now.count v close (from types.now t) lead result }
 {
+    // No `for`: the tokens say where the items end, and where the next type begins.
     let mut i = v;
     let mut j = t;
     loop {
         let from = j + lead;
-        let u = type_of(ttext, ttable, tn, from);
-        let next = fits_one(
-            vtext, vtable, vn, i, ttext, ttable, tn, from, u.kinds, u.pairs,
-        );
-        if next == MISFIT {
-            return MISFIT;
-        }
-        let s = symbol_at(vtext, vtable, vn, next);
-        let w = symbol_at(ttext, ttable, tn, u.end);
+        let u = type_of(types, from);
+        let next = fits_one(values, i, types, from, u.kinds, u.pairs)?;
+        let s = values.symbol_at(next);
+        let w = types.symbol_at(u.end);
         if both(s, close, w, Symbol::RIGHT_ROUND) {
-            return next + 1;
+            return Some(next + 1);
         }
         if !both(s, Symbol::COMMA, w, Symbol::COMMA) {
-            return MISFIT;
+            return None;
         }
         i = next + 1;
         j = u.end + 1;
@@ -338,168 +246,98 @@ fn fits_each(
 
 // Whether the value at place v fits the type at place t, which has these kinds and pairs.
 pub fn fits_item(
-    vtext: &[u8],
-    vtable: &[u32],
-    vn: usize,
+    values: &Tokens<'_>,
     v: usize,
-    ttext: &[u8],
-    ttable: &[u32],
-    tn: usize,
+    types: &Tokens<'_>,
     t: usize,
     kinds: u32,
     pairs: usize,
-) -> usize
-    requires holds { Holds vtext.now vtable.now vn }
-    requires holds_2 { Holds ttext.now ttable.now tn }
-    ensures range { Within vn v result }
-    ensures meaning { OfItem vtext.now vtable.now vn v (toks ttext.now ttable.now tn t) kinds pairs result }
+) -> Option<usize>
+    ensures range { Within values.now.count v result }
+    ensures meaning { OfItem values.now.text.now values.now.table.now values.now.count v (from types.now t) kinds pairs result }
 {
-    fits_one(vtext, vtable, vn, v, ttext, ttable, tn, t, kinds, pairs)
+    fits_one(values, v, types, t, kinds, pairs)
 }
 
 // Whether an answer is a place, and the equals sign of a left side follows.
-fn is_whole(text: &[u8], table: &[u32], n: usize, next: usize) -> bool
-    requires { Holds text.now table.now n }
-    ensures { result ≡ is_whole text.now table.now n next }
+fn is_whole(tokens: &Tokens<'_>, answer: Option<usize>) -> bool
+    ensures { result ≡ is_whole tokens.now.text.now tokens.now.table.now tokens.now.count answer }
 {
-    if next == MISFIT {
-        return false;
+    match answer {
+        Some(next) => tokens.symbol_at(next) == Symbol::EQUAL,
+        None => false,
     }
-    symbol_at(text, table, n, next) == Symbol::EQUAL
 }
 
 // Whether the left side at place `at` matches the base at place t, of these kinds, under k pairs of square brackets.
 fn matches_one(
-    dtext: &[u8],
-    dtable: &[u32],
-    dn: usize,
+    doc: &Tokens<'_>,
     at: usize,
-    ltext: &[u8],
-    ltable: &[u32],
-    ln: usize,
+    list: &Tokens<'_>,
     t: usize,
     kinds: u32,
     k: usize,
 ) -> bool
-    requires holds { Holds dtext.now dtable.now dn }
-    requires holds_2 { Holds ltext.now ltable.now ln }
-    ensures { (c : ℕ) (w : Ty) (ws : List Token) → BaseOf kinds c (toks ltext.now ltable.now ln t) w ws
-        → OfLeft dtext.now dtable.now dn at (stacked k w) result }
+    ensures { (c : ℕ) (w : Ty) (ws : List Token) → BaseOf kinds c (from list.now t) w ws
+        → OfLeft doc.now.text.now doc.now.table.now doc.now.count at (stacked k w) result }
 {
-    let s = symbol_at(dtext, dtable, dn, at);
-    let whole = fits_base(dtext, dtable, dn, at, s, ltext, ltable, ln, t, kinds, k);
-    if is_whole(dtext, dtable, dn, whole) {
+    let whole = fits_one(doc, at, list, t, kinds, k);
+    if is_whole(doc, whole) {
         return true;
     }
     if k != 0 {
         return false;
     }
-    if symbol_at(ltext, ltable, ln, t) != Symbol::LEFT_ROUND {
+    if list.symbol_at(t) != Symbol::LEFT_ROUND {
         return false;
     }
     let close = Symbol::EQUAL;
-    fits_each(dtext, dtable, dn, at, close, ltext, ltable, ln, t + 1, 0) != MISFIT
+    fits_each(doc, at, close, list, t + 1, 0).is_some()
 }
 
 // Whether the left side at place `at` is a tuple in brackets that matches the results at place `results`.
-fn matches_bracketed(
-    dtext: &[u8],
-    dtable: &[u32],
-    dn: usize,
-    at: usize,
-    ltext: &[u8],
-    ltable: &[u32],
-    ln: usize,
-    results: usize,
-) -> bool
-    requires holds { Holds dtext.now dtable.now dn }
-    requires holds_2 { Holds ltext.now ltable.now ln }
-    requires results_le_ln { results ≤ ln }
-    ensures { (c : ℕ) (cs : Tys) (ws : List Token) → Columns 2 c (toks ltext.now ltable.now ln results) cs ws
-        → OfWhole dtext.now dtable.now dn at (tuple_of cs) result }
+fn matches_bracketed(doc: &Tokens<'_>, at: usize, list: &Tokens<'_>, results: usize) -> bool
+    requires { results ≤ list.now.count }
+    ensures { (c : ℕ) (cs : Tys) (ws : List Token) → Columns 2 c (from list.now results) cs ws
+        → OfWhole doc.now.text.now doc.now.table.now doc.now.count at (tuple_of cs) result }
 {
-    if symbol_at(dtext, dtable, dn, at) != Symbol::LEFT_ROUND {
+    if doc.symbol_at(at) != Symbol::LEFT_ROUND {
         return false;
     }
     let close = Symbol::RIGHT_ROUND;
-    let inner = fits_each(
-        dtext,
-        dtable,
-        dn,
-        at + 1,
-        close,
-        ltext,
-        ltable,
-        ln,
-        results,
-        2,
-    );
-    is_whole(dtext, dtable, dn, inner)
+    let inner = fits_each(doc, at + 1, close, list, results, 2);
+    is_whole(doc, inner)
 }
 
 // Whether the left side at place `at` matches the results at place `results`, at least two.
-fn matches_several(
-    dtext: &[u8],
-    dtable: &[u32],
-    dn: usize,
-    at: usize,
-    ltext: &[u8],
-    ltable: &[u32],
-    ln: usize,
-    results: usize,
-) -> bool
-    requires holds { Holds dtext.now dtable.now dn }
-    requires holds_2 { Holds ltext.now ltable.now ln }
-    requires results_le_ln { results ≤ ln }
-    ensures { (c : ℕ) (cs : Tys) (ws : List Token) → Columns 2 c (toks ltext.now ltable.now ln results) cs ws → Several cs
-        → OfLeft dtext.now dtable.now dn at (tuple_of cs) result }
+fn matches_several(doc: &Tokens<'_>, at: usize, list: &Tokens<'_>, results: usize) -> bool
+    requires { results ≤ list.now.count }
+    ensures { (c : ℕ) (cs : Tys) (ws : List Token) → Columns 2 c (from list.now results) cs ws → Several cs
+        → OfLeft doc.now.text.now doc.now.table.now doc.now.count at (tuple_of cs) result }
 {
-    if matches_bracketed(dtext, dtable, dn, at, ltext, ltable, ln, results) {
+    if matches_bracketed(doc, at, list, results) {
         return true;
     }
     let close = Symbol::EQUAL;
-    fits_each(dtext, dtable, dn, at, close, ltext, ltable, ln, results, 2) != MISFIT
+    fits_each(doc, at, close, list, results, 2).is_some()
 }
 
 // Whether the left side at place `at` of a document matches the results at place `results` of an operation list. `code` is the number of
 // the only result's type, or `SEVERAL`. Most operations have one result of type `tensor`, which only a name matches.
-pub fn matches(
-    dtext: &[u8],
-    dtable: &[u32],
-    dn: usize,
-    at: usize,
-    ltext: &[u8],
-    ltable: &[u32],
-    ln: usize,
-    results: usize,
-    code: u32,
-) -> bool
-    requires holds { Holds dtext.now dtable.now dn }
-    requires holds_2 { Holds ltext.now ltable.now ln }
-    ensures { MatchesResults dtext.now dtable.now dn at (toks ltext.now ltable.now ln results) code result }
+pub fn matches(doc: &Tokens<'_>, at: usize, list: &Tokens<'_>, results: usize, code: u32) -> bool
+    ensures { MatchesResults doc.now.text.now doc.now.table.now doc.now.count at (from list.now results) code result }
 {
     if code == TENSOR {
-        return is_label(dtext, dtable, dn, at);
+        return doc.is_label(at);
     }
-    if ln <= results {
+    if list.count <= results {
         return false;
     }
     if code == SEVERAL {
-        return matches_several(dtext, dtable, dn, at, ltext, ltable, ln, results);
+        return matches_several(doc, at, list, results);
     }
     let kinds = kinds_in(code);
-    matches_one(
-        dtext,
-        dtable,
-        dn,
-        at,
-        ltext,
-        ltable,
-        ln,
-        results + 2,
-        kinds,
-        pairs_in(code),
-    )
+    matches_one(doc, at, list, results + 2, kinds, pairs_in(code))
 }
 
 // The pairs of square brackets of a type, and the place after it.
@@ -510,12 +348,11 @@ pub struct Shape {
 }
 
 // The shape of the type at place `at`.
-pub fn shape_at(text: &[u8], table: &[u32], n: usize, at: usize) -> Shape
-    requires { Holds text.now table.now n }
-    ensures range { result.at ≤ n + 1 }
-    ensures meaning { OfShape text.now table.now n at result.pairs result.at }
+pub fn shape_at(tokens: &Tokens<'_>, at: usize) -> Shape
+    ensures range { result.at ≤ tokens.now.count + 1 }
+    ensures meaning { OfShape tokens.now.text.now tokens.now.table.now tokens.now.count at result.pairs result.at }
 {
-    let u = type_of(text, table, n, at);
+    let u = type_of(tokens, at);
     Shape {
         pairs: u.pairs,
         at: u.end,

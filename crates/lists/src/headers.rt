@@ -1,5 +1,6 @@
 // The rules of an operation list, codes 12, 13 and 14, and its directory, in one walk over the headers.
-ghost use Rattle.std.specs.Prelude.{◌≡◌, Bool, List, [], ◌∷◌, ◌++◌, ◌+◌, ◌<◌, ◌≤◌, length};
+// The tokens, the index and the words are parameters and no struct: lent as one, each call would have to promise that the tokens stay.
+ghost use Rattle.std.specs.Prelude.{◌≡◌, Bool, List, [], ◌∷◌, ◌++◌, ◌+◌, ◌<◌, ◌≤◌, length, unwrap_or};
 ghost use Rattle.std.proofs.Math.Option.{some};
 ghost use Rattle.lexis.specs.Sizes.{max_text, max_tokens, max_brackets, max_parameters};
 ghost use Rattle.lexis.specs.Lexer.{Token};
@@ -7,7 +8,8 @@ ghost use Rattle.syntax.specs.Tree.{Value, Result};
 ghost use Rattle.syntax.specs.Grammar.{literals};
 ghost use Rattle.syntax.specs.Parser.{value, header, operations};
 ghost use Rattle.syntax.specs.Parser.Parse.{ok};
-ghost use Rattle.syntax.specs.Table.{toks, place_of, Holds};
+ghost use Rattle.syntax.specs.Table.{place_of};
+ghost use Rattle.syntax.specs.Tokens.{from};
 ghost use Rattle.lists.specs.Code as C;
 ghost use Rattle.lists.specs.Fault.{fault};
 ghost use Rattle.lists.specs.Best.{clean, meant};
@@ -18,18 +20,16 @@ ghost use Rattle.lists.specs.Headers.{Reads, param_row, result_row, Roomy, Ready
 ghost use Rattle.lists.specs.Headers.{OfResults, OfHeader, OfHeaders, Carried, empty_row, onward_row};
 
 use crate::best::Best;
-use crate::code::Code;
 use crate::directory::{Name, store_operation, store_parameter};
 use crate::fitting::fits_item;
 use crate::mask::extended;
 use crate::types::{SEVERAL, TypeAt, type_of};
-use crate::word::start_at;
-use index::{enter, set_word, word_of};
+use index::{enter, keep_word, set_word, word_of};
 use lexis::limits::Limits;
+use lexis::refusal::Refusal;
 use lexis::symbol::Symbol;
-use syntax::Parsed;
-use syntax::symbol::{place_at, symbol_at};
-use syntax::value::{Leaves, value};
+use syntax::tokens::Tokens;
+use syntax::value::Leaves;
 
 // Where the walk along a header has come to: the first fault, the place it goes on at, how many items of the row it has met, how many parameters of the list
 // there are, and the mask of those of the row without a default.
@@ -42,10 +42,10 @@ pub struct Row {
     pub required: u32,
 }
 
-// The default of a parameter: its place, or 0 where there is none, the place after it, and its fault.
+// The default of a parameter: its place, if there is one, the place after it, and its fault.
 #[derive(Clone, Copy)]
 pub struct Default {
-    pub at: usize,
+    pub at: Option<usize>,
     pub end: usize,
     pub best: Best,
 }
@@ -60,90 +60,78 @@ pub struct Ruled {
 // ---- names
 
 // Whether the name at place i is among those of header k, among which it then is.
-fn named(text: &[u8], table: &[u32], n: usize, index: &mut [u16], i: usize, k: usize) -> bool
-    requires holds { Holds text.now table.now n }
-    requires i_lt_n { (i < n) × (n ≤ max_tokens) × (k ≤ n) }
-    requires walkable_2 { Walkable index.old i n }
-    ensures walkable { Walkable index.new (i + 1) n }
-    ensures meaning { Marks text.now table.now index.old index.new i k result }
+fn named(tokens: &Tokens<'_>, index: &mut [u16], i: usize, k: usize) -> bool
+    requires i_lt_n { (i < tokens.now.count) × (tokens.now.count ≤ max_tokens) × (k ≤ tokens.now.count) }
+    requires walkable_2 { Walkable index.old i tokens.now.count }
+    ensures walkable { Walkable index.new (i + 1) tokens.now.count }
+    ensures meaning { Marks tokens.now.text.now tokens.now.table.now index.old index.new i k result }
 {
-    let p = enter(text, table, n, &mut *index, i);
+    let p = enter(tokens, &mut *index, i);
     let again = word_of(index, p, Name::HEADER) == k;
     set_word(index, p, Name::HEADER, k);
     again
 }
 
 // Whether the name at place i is among those of the k operations before it, to which it is added.
-fn operation(text: &[u8], table: &[u32], n: usize, index: &mut [u16], i: usize, k: usize) -> bool
-    requires holds { Holds text.now table.now n }
-    requires i_lt_n { (i < n) × (n ≤ max_tokens) × (k ≤ n) }
-    requires walkable_2 { Walkable index.old i n }
-    ensures walkable { Walkable index.new (i + 1) n }
-    ensures meaning { Numbers text.now table.now index.old index.new i k result }
+fn operation(tokens: &Tokens<'_>, index: &mut [u16], i: usize, k: usize) -> bool
+    requires i_lt_n { (i < tokens.now.count) × (tokens.now.count ≤ max_tokens) × (k ≤ tokens.now.count) }
+    requires walkable_2 { Walkable index.old i tokens.now.count }
+    ensures walkable { Walkable index.new (i + 1) tokens.now.count }
+    ensures meaning { Numbers tokens.now.text.now tokens.now.table.now index.old index.new i k result }
 {
-    let p = enter(text, table, n, &mut *index, i);
-    if word_of(index, p, Name::OPERATION) != 0 {
-        return true;
-    }
-    set_word(index, p, Name::OPERATION, k + 1);
-    false
+    let p = enter(tokens, &mut *index, i);
+    keep_word(index, p, Name::OPERATION, k + 1).is_some()
 }
 
 // ---- one parameter
 
 // The fault 14 at the token at place i.
-fn misfit_at(text: &[u8], table: &[u32], n: usize, i: usize) -> Best
-    requires holds { Holds text.now table.now n }
-    requires text_len_bound { length text.now ≤ max_text }
-    ensures { meant result ≡ some (fault C.bad_default (place_of (length text.now) (toks text.now table.now n i))) }
+fn misfit_at(tokens: &Tokens<'_>, i: usize) -> Best
+    requires { length tokens.now.text.now ≤ max_text }
+    ensures { meant result ≡ some (fault C.bad_default (place_of (length tokens.now.text.now) (from tokens.now i))) }
 {
-    Best {
-        at: place_at(text, table, n, i) as u32,
-        code: Code::BAD_DEFAULT,
-        detail: 0,
-    }
+    Best::one(Refusal::BadDefault, tokens.place_at(i) as u32)
 }
 
 // The place after the value without names at place v.
-fn value_end(text: &[u8], table: &[u32], n: usize, v: usize) -> usize
-    requires { Holds text.now table.now n }
-    ensures { (x : Value) (us : List Token) → value literals max_brackets (toks text.now table.now n v) ≡ ok x us
-        → us ≡ toks text.now table.now n result }
+fn value_end(tokens: &Tokens<'_>, v: usize) -> usize
+    ensures { (x : Value) (us : List Token) → value literals max_brackets (from tokens.now v) ≡ ok x us
+        → us ≡ from tokens.now result }
 {
-    let Parsed::Done(end) = value(text, table, n, v, Leaves::Literals, Limits::BRACKETS) else {
-        return n;
+    let Ok(end) = tokens.value(v, Leaves::Literals, Limits::BRACKETS) else {
+        return tokens.count;
     };
     end
 }
 
 // The default after the type ty, which stands at place t.
-fn default_of(text: &[u8], table: &[u32], n: usize, t: usize, ty: TypeAt) -> Default
-    requires holds { Holds text.now table.now n }
-    requires text_len_bound { (length text.now ≤ max_text) × (ty.end ≤ n + 1) × (n ≤ max_tokens) }
-    ensures range { result.at ≤ n }
-    ensures meaning { OfDefault text.now table.now n t ty result }
+fn default_of(tokens: &Tokens<'_>, t: usize, ty: TypeAt) -> Default
+    requires { (length tokens.now.text.now ≤ max_text) × (ty.end ≤ tokens.now.count + 1) × (tokens.now.count ≤ max_tokens) }
+    ensures range { unwrap_or result.at 0 ≤ tokens.now.count }
+    ensures meaning { OfDefault tokens.now.text.now tokens.now.table.now tokens.now.count t ty result }
 {
     let end = ty.end;
-    if symbol_at(text, table, n, end) != Symbol::EQUAL {
+    if tokens.symbol_at(end) != Symbol::EQUAL {
         return Default {
-            at: 0,
+            at: None,
             end: end,
             best: Best::none(),
         };
     }
     let v = end + 1;
-    let next = fits_item(text, table, n, v, text, table, n, t, ty.kinds, ty.pairs);
-    if 0 < next {
+    // A copy: the check covers no reference that is passed twice where its own references may have two lifetimes.
+    let types = *tokens;
+    let Some(next) = fits_item(tokens, v, &types, t, ty.kinds, ty.pairs) else {
         return Default {
-            at: v,
-            end: next,
-            best: Best::none(),
+            at: Some(v),
+            end: value_end(tokens, v),
+            best: misfit_at(tokens, v),
         };
-    }
+    };
     Default {
-        at: v,
-        end: value_end(text, table, n, v),
-        best: misfit_at(text, table, n, v),
+        at: Some(v),
+        end: next,
+        best: Best::none(),
     }
 }
 
@@ -158,39 +146,37 @@ fn required(mask: u32, k: usize, is_in: bool) -> u32
 }
 
 // The parameter at the row's place.
-fn parameter(
-    text: &[u8],
-    table: &[u32],
-    n: usize,
-    k: usize,
-    index: &mut [u16],
-    words: &mut [u32],
-    row: Row,
-) -> Row
-    requires ready { Ready text.now table.now index.old n k row }
-    requires roomy { Roomy words.old n }
-    requires at_bound { row.at + 4 ≤ n }
-    ensures walkable { Walkable index.new (row.at + 1) n }
-    ensures meaning { OfParameter text.now table.now index.old index.new
-        words.old words.new n k row result }
+fn parameter(tokens: &Tokens<'_>, k: usize, index: &mut [u16], words: &mut [u32], row: Row) -> Row
+    requires ready { Ready tokens.now.text.now index.old tokens.now.count k row }
+    requires roomy { Roomy words.old tokens.now.count }
+    requires at_bound { row.at + 4 ≤ tokens.now.count }
+    ensures walkable { Walkable index.new (row.at + 1) tokens.now.count }
+    ensures meaning { OfParameter tokens.now.text.now tokens.now.table.now index.old index.new
+        words.old words.new tokens.now.count k row result }
 {
     let at = row.at;
-    let again = named(text, table, n, index, at, k);
-    let ty = type_of(text, table, n, at + 2);
-    let d = default_of(text, table, n, at + 2, ty);
-    store_parameter(words, row.params, at as u32, ty.code(), d.at as u32);
-    let place = start_at(table, at);
+    let again = named(tokens, index, at, k);
+    let ty = type_of(tokens, at + 2);
+    let d = default_of(tokens, at + 2, ty);
+    store_parameter(
+        words,
+        row.params,
+        at as u32,
+        ty.code(),
+        d.at.unwrap_or(0) as u32,
+    );
+    let place = tokens.start_at(at);
     let beyond = row.index == Limits::PARAMETERS;
     let best = row
         .best
-        .or_if(beyond, Code::OVER_SIZE, place)
-        .or_if(again, Code::REPEATED_NAME, place);
+        .or_if(beyond, Refusal::OverSize, place)
+        .or_if(again, Refusal::RepeatedName, place);
     Row {
         best: best.earlier(d.best),
         at: d.end,
         index: row.index + 1,
         params: row.params + 1,
-        required: required(row.required, row.index, d.at == 0),
+        required: required(row.required, row.index, d.at.is_none()),
     }
 }
 
@@ -225,26 +211,19 @@ impl Row {
 }
 
 // The parameters from the row's place on; the row is left after the bracket that closes them.
-fn parameters(
-    text: &[u8],
-    table: &[u32],
-    n: usize,
-    k: usize,
-    index: &mut [u16],
-    words: &mut [u32],
-    row: Row,
-) -> Row
-    requires ready_2 { Ready text.now table.now index.old n k row }
-    requires roomy { Roomy words.old n }
-    requires reads { Reads param_row text.now table.now n row.at }
-    ensures ready { Ready text.now table.now index.new n k result }
-    ensures meaning { OfParameters text.now table.now index.old index.new
-        words.old words.new n k row result }
+fn parameters(tokens: &Tokens<'_>, k: usize, index: &mut [u16], words: &mut [u32], row: Row) -> Row
+    requires ready_2 { Ready tokens.now.text.now index.old tokens.now.count k row }
+    requires roomy { Roomy words.old tokens.now.count }
+    requires reads { Reads param_row tokens.now.text.now tokens.now.table.now tokens.now.count row.at }
+    ensures ready { Ready tokens.now.text.now index.new tokens.now.count k result }
+    ensures meaning { OfParameters tokens.now.text.now tokens.now.table.now index.old index.new
+        words.old words.new tokens.now.count k row result }
 {
+    // No `for`: the tokens say where the parameters end.
     let mut r = row;
     loop {
-        r = parameter(text, table, n, k, &mut *index, &mut *words, r);
-        if symbol_at(text, table, n, r.at) != Symbol::COMMA {
+        r = parameter(tokens, k, &mut *index, &mut *words, r);
+        if tokens.symbol_at(r.at) != Symbol::COMMA {
             return r.onward();
         }
         r = r.onward();
@@ -254,23 +233,23 @@ fn parameters(
 // ---- results
 
 // The result at the row's place.
-fn result(text: &[u8], table: &[u32], n: usize, k: usize, index: &mut [u16], row: Row) -> Row
-    requires ready { Ready text.now table.now index.old n k row }
-    requires at_lt_n { row.at < n }
-    ensures walkable { Walkable index.new (row.at + 1) n }
+fn result(tokens: &Tokens<'_>, k: usize, index: &mut [u16], row: Row) -> Row
+    requires ready { Ready tokens.now.text.now index.old tokens.now.count k row }
+    requires at_lt_n { row.at < tokens.now.count }
+    ensures walkable { Walkable index.new (row.at + 1) tokens.now.count }
     ensures carried { Carried row result }
-    ensures meaning { OfResult text.now table.now index.old index.new n k row result }
+    ensures meaning { OfResult tokens.now.text.now tokens.now.table.now index.old index.new tokens.now.count k row result }
 {
     let at = row.at;
-    let again = named(text, table, n, index, at, k);
-    let ty = type_of(text, table, n, at + 2);
-    let place = start_at(table, at);
+    let again = named(tokens, index, at, k);
+    let ty = type_of(tokens, at + 2);
+    let place = tokens.start_at(at);
     let beyond = row.index == Limits::RESULTS;
     Row {
         best: row
             .best
-            .or_if(beyond, Code::OVER_SIZE, place)
-            .or_if(again, Code::REPEATED_NAME, place),
+            .or_if(beyond, Refusal::OverSize, place)
+            .or_if(again, Refusal::RepeatedName, place),
         at: ty.end,
         index: row.index + 1,
         params: row.params,
@@ -279,17 +258,18 @@ fn result(text: &[u8], table: &[u32], n: usize, k: usize, index: &mut [u16], row
 }
 
 // The results from the row's place on; the row is left after the bracket that closes them.
-fn results(text: &[u8], table: &[u32], n: usize, k: usize, index: &mut [u16], row: Row) -> Row
-    requires ready_2 { Ready text.now table.now index.old n k row }
-    requires reads { Reads result_row text.now table.now n row.at }
-    ensures ready { Ready text.now table.now index.new n k result }
+fn results(tokens: &Tokens<'_>, k: usize, index: &mut [u16], row: Row) -> Row
+    requires ready_2 { Ready tokens.now.text.now index.old tokens.now.count k row }
+    requires reads { Reads result_row tokens.now.text.now tokens.now.table.now tokens.now.count row.at }
+    ensures ready { Ready tokens.now.text.now index.new tokens.now.count k result }
     ensures carried { Carried row result }
-    ensures meaning { OfResults text.now table.now index.old index.new n k row result }
+    ensures meaning { OfResults tokens.now.text.now tokens.now.table.now index.old index.new tokens.now.count k row result }
 {
+    // No `for`: the tokens say where the results end.
     let mut r = row;
     loop {
-        r = result(text, table, n, k, &mut *index, r);
-        if symbol_at(text, table, n, r.at) != Symbol::COMMA {
+        r = result(tokens, k, &mut *index, r);
+        if tokens.symbol_at(r.at) != Symbol::COMMA {
             return r.onward();
         }
         r = r.onward();
@@ -297,49 +277,38 @@ fn results(text: &[u8], table: &[u32], n: usize, k: usize, index: &mut [u16], ro
 }
 
 // The number of the type of the only one of the results from place `from` on, or the one for several.
-fn result_code(text: &[u8], table: &[u32], n: usize, from: usize, count: usize) -> u32
-    requires holds { Holds text.now table.now n }
-    requires n_le_max_tokens { (n ≤ max_tokens) × (from ≤ n) }
-    ensures { (rs : List Result) (us : List Token) → result_row (toks text.now table.now n from) ≡ ok rs us
+fn result_code(tokens: &Tokens<'_>, at: usize, count: usize) -> u32
+    requires { (tokens.now.count ≤ max_tokens) × (at ≤ tokens.now.count) }
+    ensures { (rs : List Result) (us : List Token) → result_row (from tokens.now at) ≡ ok rs us
         → count ≡ length rs → result ≡ result_code rs }
 {
     if count != 1 {
         return SEVERAL;
     }
-    type_of(text, table, n, from + 2).code()
+    type_of(tokens, at + 2).code()
 }
 
 // ---- headers
 
 // Header k, at the row's place.
-fn header(
-    text: &[u8],
-    table: &[u32],
-    n: usize,
-    k: usize,
-    index: &mut [u16],
-    words: &mut [u32],
-    row: Row,
-) -> Row
-    requires ready_2 { Ready text.now table.now index.old n k row }
-    requires roomy { Roomy words.old n }
-    requires reads { Reads (header max_brackets) text.now table.now n row.at }
-    ensures ready { Ready text.now table.now index.new n (k + 1) result }
-    ensures meaning { OfHeader text.now table.now index.old index.new
-        words.old words.new n k row result }
+fn header(tokens: &Tokens<'_>, k: usize, index: &mut [u16], words: &mut [u32], row: Row) -> Row
+    requires ready_2 { Ready tokens.now.text.now index.old tokens.now.count k row }
+    requires roomy { Roomy words.old tokens.now.count }
+    requires reads { Reads (header max_brackets) tokens.now.text.now tokens.now.table.now tokens.now.count row.at }
+    ensures ready { Ready tokens.now.text.now index.new tokens.now.count (k + 1) result }
+    ensures meaning { OfHeader tokens.now.text.now tokens.now.table.now index.old index.new
+        words.old words.new tokens.now.count k row result }
 {
     let q = row.at + 1;
-    let again = operation(text, table, n, &mut *index, q, k);
+    let again = operation(tokens, &mut *index, q, k);
     let beyond = row.best.or_if(
         k == Limits::OPERATIONS,
-        Code::OVER_SIZE,
-        start_at(table, row.at),
+        Refusal::OverSize,
+        tokens.start_at(row.at),
     );
-    let best = beyond.or_if(again, Code::REPEATED_NAME, start_at(table, q));
+    let best = beyond.or_if(again, Refusal::RepeatedName, tokens.start_at(q));
     let ps = parameters(
-        text,
-        table,
-        n,
+        tokens,
         k + 1,
         &mut *index,
         &mut *words,
@@ -347,14 +316,12 @@ fn header(
     );
     let from = ps.at + 2;
     let rs = results(
-        text,
-        table,
-        n,
+        tokens,
         k + 1,
         index,
         Row::empty(ps.best, from, ps.params, ps.required),
     );
-    let code = result_code(text, table, n, from, rs.index);
+    let code = result_code(tokens, from, rs.index);
     store_operation(
         words,
         k,
@@ -369,19 +336,20 @@ fn header(
 }
 
 // All headers of a list.
-pub fn headers(text: &[u8], table: &[u32], n: usize, index: &mut [u16], words: &mut [u32]) -> Ruled
-    requires ready { Ready text.now table.now index.old n 0 (empty_row clean 0 0 0) }
-    requires roomy { Roomy words.old n }
-    requires reads { Reads (operations max_brackets) text.now table.now n 0 }
-    ensures walkable { Walkable index.new n n }
-    ensures few { result.count ≤ n }
-    ensures meaning { OfHeaders text.now table.now index.old index.new
-        words.old words.new n 0 (empty_row clean 0 0 0) result }
+pub fn headers(tokens: &Tokens<'_>, index: &mut [u16], words: &mut [u32]) -> Ruled
+    requires ready { Ready tokens.now.text.now index.old tokens.now.count 0 (empty_row clean 0 0 0) }
+    requires roomy { Roomy words.old tokens.now.count }
+    requires reads { Reads (operations max_brackets) tokens.now.text.now tokens.now.table.now tokens.now.count 0 }
+    ensures walkable { Walkable index.new tokens.now.count tokens.now.count }
+    ensures few { result.count ≤ tokens.now.count }
+    ensures meaning { OfHeaders tokens.now.text.now tokens.now.table.now index.old index.new
+        words.old words.new tokens.now.count 0 (empty_row clean 0 0 0) result }
 {
+    // No `for`: each header says where the next one begins.
     let mut k = 0;
     let mut r = Row::empty(Best::none(), 0, 0, 0);
-    while r.at < n {
-        r = header(text, table, n, k, &mut *index, &mut *words, r);
+    while r.at < tokens.count {
+        r = header(tokens, k, &mut *index, &mut *words, r);
         k += 1;
     }
     let best = r.best;

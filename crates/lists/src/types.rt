@@ -3,16 +3,16 @@
 ghost use Rattle.std.specs.Prelude.{◌≡◌, true, ◌+◌, ◌*◌, ◌<◌, ◌≤◌};
 ghost use Rattle.lexis.specs.Sizes.{max_tokens};
 ghost use Rattle.syntax.specs.Tree.{Ty};
-ghost use Rattle.syntax.specs.Table.{toks, Holds};
+ghost use Rattle.syntax.specs.Tokens.{from};
 ghost use Rattle.lists.specs.Reading.{all_tensor};
-ghost use Rattle.lists.specs.Masks.{bit};
 ghost use Rattle.lists.specs.Types.{takes, kinds_of, pairs_of, word_kinds, type_code, OfType, TypeRange};
-ghost use Rattle.lists.specs.Fitting.{rounds_opened, rounds_closed, still, type_walk, OfBase, OfPairs};
+ghost use Rattle.lists.specs.Fitting.{still, type_walk, OfBase, OfPairs};
 
 use lexis::symbol::Symbol;
-use syntax::symbol::symbol_at;
+use syntax::tokens::Tokens;
 
 // The kinds of leaf that a type word takes, as a mask: bit k is kind k. No two words take the same kinds, and a tuple takes none.
+// Numbers and no enum: a type's number is stored in a word of the directory, and the mask is tested by a shift.
 #[derive(Clone, Copy)]
 pub struct LeafKinds {}
 
@@ -34,6 +34,7 @@ impl LeafKinds {
 }
 
 // Whether a leaf of this kind is among those. A kind is below 32.
+#[tactic(auto, unfolding(crate::specs::Types::takes))]
 pub fn takes(kinds: u32, kind: u32) -> bool
     ensures { result ≡ takes kinds kind }
 {
@@ -70,79 +71,55 @@ pub struct Span {
     pub tensor: bool,
 }
 
-// How many round brackets the terminal s opens.
-fn opens(s: u32) -> usize
-    ensures { result ≡ rounds_opened s }
-{
-    if s == Symbol::LEFT_ROUND {
-        return 1;
-    }
-    0
-}
-
-// How many round brackets the terminal s closes.
-fn closes(s: u32) -> usize
-    ensures { result ≡ rounds_closed s }
-{
-    if s == Symbol::RIGHT_ROUND {
-        return 1;
-    }
-    0
-}
-
 // Whether tensor is still the only word, after the terminal s.
+#[tactic(auto, unfolding(crate::specs::Fitting::still))]
 fn still(s: u32, tensor: bool) -> bool
     ensures { result ≡ still s tensor }
 {
-    if s < Symbol::EXTENT {
-        return tensor;
-    }
-    false
+    tensor && s < Symbol::EXTENT
 }
 
 // The tokens of a tuple type after its bracket.
-fn inside(text: &[u8], table: &[u32], n: usize, at: usize) -> Span
-    requires holds { Holds text.now table.now n }
-    requires at_le_n { at ≤ n }
-    ensures range { result.at ≤ n }
-    ensures meaning { record { left = toks text.now table.now n result.at; tensor = result.tensor }
-        ≡ type_walk 1 true (toks text.now table.now n at) }
+fn inside(tokens: &Tokens<'_>, at: usize) -> Span
+    requires at_le_n { at ≤ tokens.now.count }
+    ensures range { result.at ≤ tokens.now.count }
+    ensures meaning { record { left = from tokens.now result.at; tensor = result.tensor }
+        ≡ type_walk 1 true (from tokens.now at) }
 {
     let mut depth = 1;
     let mut tensor = true;
-    let mut i = at;
-    while i < n {
-        let s = symbol_at(text, table, n, i);
-        depth = depth + opens(s) - closes(s);
+    for i in at..tokens.count {
+        let s = tokens.symbol_at(i);
+        let opened = usize::from(s == Symbol::LEFT_ROUND);
+        let closed = usize::from(s == Symbol::RIGHT_ROUND);
+        depth = depth + opened - closed;
         tensor = still(s, tensor);
-        i += 1;
         if depth == 0 {
             return Span {
-                at: i,
+                at: i + 1,
                 tensor: tensor,
             };
         }
     }
     Span {
-        at: n,
+        at: tokens.count,
         tensor: tensor,
     }
 }
 
 // A type without its pairs of square brackets, whose first terminal is s.
-fn base(text: &[u8], table: &[u32], n: usize, at: usize, s: u32) -> Span
-    requires { Holds text.now table.now n }
-    ensures range { result.at ≤ n }
-    ensures meaning { OfBase text.now table.now n at s result }
+fn base(tokens: &Tokens<'_>, at: usize, s: u32) -> Span
+    ensures range { result.at ≤ tokens.now.count }
+    ensures meaning { OfBase tokens.now.text.now tokens.now.table.now tokens.now.count at s result }
 {
-    if n <= at {
+    if tokens.count <= at {
         return Span {
-            at: n,
+            at: tokens.count,
             tensor: false,
         };
     }
     if s == Symbol::LEFT_ROUND {
-        return inside(text, table, n, at + 1);
+        return inside(tokens, at + 1);
     }
     Span {
         at: at + 1,
@@ -151,28 +128,27 @@ fn base(text: &[u8], table: &[u32], n: usize, at: usize, s: u32) -> Span
 }
 
 // How many pairs of square brackets stand from place `at` on.
-fn pairs(text: &[u8], table: &[u32], n: usize, at: usize) -> usize
-    requires holds { Holds text.now table.now n }
-    requires at_le_n { at ≤ n }
-    ensures range { at + 2 * result ≤ n + 1 }
-    ensures meaning { OfPairs text.now table.now n at result }
+// A `while` and no `for`: nothing bounds the pairs before the scan, so a range would only repeat the test.
+fn pairs(tokens: &Tokens<'_>, at: usize) -> usize
+    requires at_le_n { at ≤ tokens.now.count }
+    ensures range { at + 2 * result ≤ tokens.now.count + 1 }
+    ensures meaning { OfPairs tokens.now.text.now tokens.now.table.now tokens.now.count at result }
 {
     let mut k = 0;
-    while symbol_at(text, table, n, at + 2 * k) == Symbol::LEFT_SQUARE {
+    while tokens.symbol_at(at + 2 * k) == Symbol::LEFT_SQUARE {
         k += 1;
     }
     k
 }
 
 // The type at place `at`.
-pub fn type_of(text: &[u8], table: &[u32], n: usize, at: usize) -> TypeAt
-    requires { Holds text.now table.now n }
-    ensures range { TypeRange n result }
-    ensures meaning { OfType text.now table.now n at result }
+pub fn type_of(tokens: &Tokens<'_>, at: usize) -> TypeAt
+    ensures range { TypeRange tokens.now.count result }
+    ensures meaning { OfType tokens.now.text.now tokens.now.table.now tokens.now.count at result }
 {
-    let s = symbol_at(text, table, n, at);
-    let b = base(text, table, n, at, s);
-    let k = pairs(text, table, n, b.at);
+    let s = tokens.symbol_at(at);
+    let b = base(tokens, at, s);
+    let k = pairs(tokens, b.at);
     TypeAt {
         kinds: kinds_of(s),
         pairs: k,
@@ -181,23 +157,13 @@ pub fn type_of(text: &[u8], table: &[u32], n: usize, at: usize) -> TypeAt
     }
 }
 
-// 1 where the test holds.
-fn bit(test: bool) -> u32
-    ensures { result ≡ bit test }
-{
-    if test {
-        return 1;
-    }
-    0
-}
-
 impl TypeAt {
     // The type as one number.
     pub fn code(self) -> u32
         requires { (self.kinds < 64) × (self.pairs ≤ max_tokens) }
         ensures { (u : Ty) → self.kinds ≡ kinds_of u → self.pairs ≡ pairs_of u → self.tensor ≡ all_tensor u → result ≡ type_code u }
     {
-        self.kinds + 512 * (bit(self.tensor) + 2 * self.pairs as u32)
+        self.kinds + 512 * (u32::from(self.tensor) + 2 * self.pairs as u32)
     }
 }
 

@@ -1,4 +1,4 @@
-// The operations under their C names.
+// The operations under their C names. C asks for a function each, with the contract of the one that it calls.
 #![tactic(auto)]
 
 ghost use Rattle.std.specs.Prelude.{◌≡◌, length};

@@ -2,35 +2,18 @@
 // text of the document, or the four numbers of its refusal. A read or a write that fails is said on standard error.
 #![tactic(auto)]
 
-ghost use Rattle.std.specs.Prelude.{◌<◌, ◌≤◌, IfOk, length, take};
-ghost use Rattle.std.specs.Io.KnownBytes.{Consumes, IsAtEnd};
+ghost use Rattle.std.specs.Prelude.{◌≤◌, IfOk, length};
 
 use canonical::program::show;
+use input::read_full;
 use lexis::limits::Limits;
 use std::fmt::Write as _;
 use std::fs::File;
-use std::io::{Read, Write};
+use std::io::Write;
 use std::{fmt, io};
 
 // A text of at most 16,384 bytes, and one byte more, so that a longer one is told apart.
 const ROOM: usize = Limits::TEXT + 1;
-
-// Reads until the room is full or the input ends, and gives how many bytes it put at the start of the room.
-fn read_full<R: Read>(reader: &mut R, room: &mut [u8]) -> io::Result<usize>
-    ensures within { IfOk result (λ n. n ≤ length room.new) }
-    ensures bytes { IfOk result (λ n. Consumes (R.remaining reader.old) (R.remaining reader.new) (take n room.new)) }
-    ensures end { IfOk result (λ n. n < length room.new → IsAtEnd (R.remaining reader.new)) }
-{
-    let mut n = 0;
-    while n < room.len() {
-        let count = reader.read(&mut room[n..])?;
-        if count == 0 {
-            break;
-        }
-        n += count;
-    }
-    Ok(n)
-}
 
 // As many bytes as the words of an error may have.
 const WORDS: usize = 256;
@@ -40,32 +23,30 @@ const WORDS: usize = 256;
 struct Words {
     bytes: [u8; WORDS],
     len: usize,
+    ghost within: { len ≤ 256 },
 }
 
 impl fmt::Write for Words {
     // Adds a text, as far as there is room.
     fn write_str(&mut self, text: &str) -> fmt::Result {
-        for b in text.as_bytes() {
-            let len = self.len;
-            if len < WORDS {
-                self.bytes[len] = *b;
-                self.len = len + 1;
-            }
-        }
+        let room = &mut self.bytes[self.len..];
+        let n = text.len().min(room.len());
+        room[..n].copy_from_slice(&text.as_bytes()[..n]);
+        self.len += n;
         Ok(())
     }
 }
+
+// What begins the number of an error.
+const OS_ERROR: &[u8] = b" (os error ";
 
 // Where the number of an error stands behind its words, or the end.
 fn words_end(text: &[u8]) -> usize
     ensures { result ≤ length text.now }
 {
-    for i in 0..text.len() {
-        if text[i..].starts_with(b" (os error ") {
-            return i;
-        }
-    }
-    text.len()
+    text.windows(OS_ERROR.len())
+        .position(|w| w == OS_ERROR)
+        .unwrap_or(text.len())
 }
 
 // Says on standard error what failed, and why.
@@ -75,8 +56,7 @@ fn fail(rt: &HostRuntime, what: &str, error: io::Error) {
         len: 0,
     };
     let _ = write!(words, "{error}");
-    let len = words.len.min(WORDS);
-    let text = &words.bytes[..len];
+    let text = &words.bytes[..words.len];
     let _ = eprint!(rt; "nnef_canon: {what}: ");
     let _ = rt.stderr().write_all(&text[..words_end(text)]);
     let _ = eprintln!(rt);
@@ -91,6 +71,7 @@ fn write_out(rt: &HostRuntime, bytes: &[u8]) {
 
 // Writes what is to be shown of a document under a list.
 fn write_shown(rt: &HostRuntime, list: &[u8], document: &[u8]) {
+    // Arrays on the stack, as for the texts below: no heap, fixed memory.
     let mut work1 = [0u32; Limits::WORK_WORDS];
     let mut work2 = [0u32; Limits::WORK_WORDS];
     let mut out = [0u8; Limits::TEXT];

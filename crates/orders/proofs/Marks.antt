@@ -93,19 +93,18 @@ module _ (records marks : List ℕ) where
   unfolding needs_from all_marked
   no-use u n e = rw e
 
-  pub marked_start : (from count : ℕ) → marked from count ≡ marked (from + 0) (count - 0)
-  marked_start from count = ap₂ marked (omega arith) (omega arith)
+  pub marked_start : (from count : ℕ) → marked from count ≡ marked from (from + count - from)
+  marked_start from count = ap₂ marked refl (omega arith)
 
-  module _ (from count i : ℕ) where
-    one_more : i < count → count - i ≡ suc (count - (i + 1))
+  module _ (u end : ℕ) where
+    one_more : u < end → end - u ≡ suc (end - (u + 1))
     one_more l = omega (arith, l)
 
-    pub marked_next : i < count → (get_or marks (call_of records (from + i)) 0 ≡ 0 → ⊥) → marked (from + i) (count - i) ≡ marked (from + (i + 1)) (count - (i + 1))
-    marked_next l e =
-        ap₂ marked refl (one_more l) ∙ use-marked (from + i) (count - (i + 1)) (is-marked marks (call_of records (from + i)) e) ∙ ap₂ marked (omega arith) refl
+    pub marked_next : u < end → (get_or marks (call_of records u) 0 ≡ 0 → ⊥) → marked u (end - u) ≡ marked (u + 1) (end - (u + 1))
+    marked_next l e = ap₂ marked refl (one_more l) ∙ use-marked u (end - (u + 1)) (is-marked marks (call_of records u) e)
 
-    pub marked-not : i < count → get_or marks (call_of records (from + i)) 0 ≡ 0 → marked (from + i) (count - i) ≡ false
-    marked-not l e = ap₂ marked refl (one_more l) ∙ use-unmarked (from + i) (count - (i + 1)) (is-unmarked marks (call_of records (from + i)) e)
+    pub marked-not : u < end → get_or marks (call_of records u) 0 ≡ 0 → marked u (end - u) ≡ false
+    marked-not l e = ap₂ marked refl (one_more l) ∙ use-unmarked u (end - (u + 1)) (is-unmarked marks (call_of records u) e)
 
-    pub marked-end : count ≤ i → marked (from + i) (count - i) ≡ true
-    marked-end l = no-use (from + i) (count - i) (omega (arith, l))
+    pub marked-end : end ≤ u → marked u (end - u) ≡ true
+    marked-end l = no-use u (end - u) (omega (arith, l))

@@ -3,8 +3,8 @@
 
 pub mod packed;
 
-ghost use Rattle.std.specs.Prelude.{◌≡◌, ◌<◌, min, length};
-ghost use Rattle.spellings.specs.Comparison.{same_bytes, told, comparison, max_count, words_of, Agree};
+ghost use Rattle.std.specs.Prelude.{◌≡◌, ◌<◌, length};
+ghost use Rattle.spellings.specs.Comparison.{same_bytes, told, comparison, words_of, Agree};
 
 use packed::eight;
 
@@ -27,10 +27,7 @@ pub struct Compared {
 fn tell(same: bool, pairs: usize) -> Comparison
     ensures { result ≡ told same pairs }
 {
-    Comparison {
-        same: same,
-        pairs: pairs,
-    }
+    Comparison { same, pairs }
 }
 
 // So many bytes from the front are the same: those of all eights before the last byte, up to the first that differ.
@@ -38,14 +35,12 @@ fn agreeing(a: &[u8], b: &[u8], last: usize) -> usize
     requires { (last < length a.now) × (length a.now ≡ length b.now) }
     ensures { Agree a.now b.now result }
 {
-    let mut i = 0;
-    while i + 8 <= last {
-        if eight(a, i) != eight(b, i) {
-            return i;
+    for k in 0..last / 8 {
+        if eight(a, k * 8) != eight(b, k * 8) {
+            return k * 8;
         }
-        i += 8;
     }
-    i
+    last / 8 * 8
 }
 
 // The comparison of two spellings.
@@ -63,12 +58,10 @@ pub fn compare(a: &[u8], b: &[u8]) -> Comparison
     if a[last] != b[last] {
         return tell(false, 1);
     }
-    let mut i = agreeing(a, b, last);
-    while i < last {
+    for i in agreeing(a, b, last)..last {
         if a[i] != b[i] {
             return tell(false, i + 2);
         }
-        i += 1;
     }
     tell(true, n)
 }
@@ -77,27 +70,16 @@ pub fn compare(a: &[u8], b: &[u8]) -> Comparison
 pub fn same(a: &[u8], b: &[u8]) -> bool
     ensures { result ≡ same_bytes a.now b.now }
 {
-    let c = compare(a, b);
-    c.same
+    compare(a, b).same
 }
 
-// A count as a word: the greatest word where it is more.
-fn word_of(n: usize) -> u32
-    ensures { result ≡ min n max_count }
-{
-    if 4294967295 < n {
-        return 4294967295;
-    }
-    n as u32
-}
-
-// The comparison as two words.
+// The comparison as two words: the greatest word where the count is more.
 pub fn compare_words(a: &[u8], b: &[u8]) -> Compared
     ensures { result ≡ words_of (comparison a.now b.now) }
 {
     let c = compare(a, b);
     Compared {
         same: c.same as u32,
-        pairs: word_of(c.pairs),
+        pairs: u32::try_from(c.pairs).unwrap_or(u32::MAX),
     }
 }

@@ -2,21 +2,13 @@
 ghost use Rattle.std.specs.Prelude.{◌≡◌, ◌+◌, ◌<◌, ◌≤◌, length};
 ghost use Rattle.spellings.specs.Packed.{four_at, eight_at};
 
-// A byte as a term of a number.
-pub fn wide(b: u8) -> u64
-    ensures value { result ≡ b }
-    ensures upper_bound { result < 256 }
-{
-    b as u64
-}
-
 // Four bytes as one number.
 pub fn four(w: &[u8], i: usize) -> u64
     requires { i + 4 ≤ length w.now }
     ensures value { result ≡ four_at w.now i }
     ensures upper_bound { result < 4294967296 }
 {
-    wide(w[i]) + wide(w[i + 1]) * 256 + wide(w[i + 2]) * 65536 + wide(w[i + 3]) * 16777216
+    u64::from(u32::from_le_bytes([w[i], w[i + 1], w[i + 2], w[i + 3]]))
 }
 
 // Eight bytes as one number.

@@ -38,7 +38,8 @@ module _ (text table : List ℕ) where
   unfolding tokens_from records
   from_is i [] after (none g) e = refl
   from_is {at = at} i (t ∷ ts) after (next g f p q r w) e =
-      ap₂ (λ (x : Token) (xs : List Token). x ∷ xs) (token-is i t (records ts ++ after) e r) (from_is {at = t.start + length t.bytes} (i + 1) ts after w (next-tail table i _ _ _ _ e))
+      ap₂ (λ (x : Token) (xs : List Token). x ∷ xs) (token-is i t (records ts ++ after) e r)
+      (from_is {at = t.start + length t.bytes} (i + 1) ts after w (next-tail table i _ _ _ _ e))
 
   within-is : {at : ℕ} (i : ℕ) (ts : List Token) (after : List ℕ) → Placed text at ts → drop (i * record_words) table ≡ records ts ++ after → (j : ℕ) → i ≤ j
       → j < i + length ts → (start_at table j < end_at table j) × (end_at table j ≤ length text)

@@ -9,8 +9,8 @@ use lib.ListN.{length}
 use borrow.Author.Tests.{eq-eqb, ne_eqb, eqb-true}
 use Rattle.lexis.specs.Sizes.{max_brackets}
 use Rattle.lexis.specs.Lexer.{Token}
-use Rattle.syntax.specs.declared.Parsed.{Parsed}
-use Rattle.syntax.specs.declared.Parsed.TheVariants.{Done, Fault}
+use Rattle.syntax.specs.Read.{Parsed}
+use Rattle.syntax.specs.Read.Parsed.{Done, Fault}
 use Rattle.syntax.specs.declared.list.Item.TheVariants.{Name, Argument}
 use Rattle.lexis.specs.Symbol.{sym_of, left_round, right_round, left_curly, right_curly, equal, comma, semicolon, arrow, a_name, a_number, version, graph}
 use Rattle.syntax.specs.Tree.{Value, Call}
@@ -21,13 +21,15 @@ use Rattle.syntax.specs.Parser.{Parse, then, mapped, expect, begins, rest, row, 
 use Rattle.syntax.specs.Parser.{call, at_end, document}
 use Rattle.syntax.specs.Parser.Parse.{ok, bad}
 use Rattle.syntax.specs.Parser.Follow.{again, done}
-use Rattle.syntax.specs.Table.{toks, place_of, parsed}
-use Rattle.syntax.specs.Inner.{lookahead, onwards, semicolon_of, inputs_of, graph_of}
+use Rattle.syntax.specs.Table.{place_of, parsed}
+use Rattle.syntax.specs.Tokens.{from, answer}
+use Rattle.syntax.specs.declared.tokens.Tokens.{Tokens}
+use Rattle.syntax.specs.Inner.{lookahead, semicolon_of, inputs_of, graph_of}
 use Rattle.syntax.proofs.Row.{row_is}
 use Rattle.syntax.proofs.Shrinks.{value-shrinks, call-shrinks}
 use Rattle.syntax.proofs.Tails.{Takes, then-takes, further, expect-tails, left-tails, call-tails, row-tails}
 use Rattle.syntax.proofs.Table.{toks-none, toks_more}
-use Rattle.syntax.proofs.Chain.{fell, went, chain, steps, mapped-same}
+use Rattle.syntax.proofs.Chain.{outcome, onwards, goes, stops, chain, steps, steps-append, mapped-same}
 use Rattle.syntax.proofs.Symbols.{begins-look, stands, one_more, none_more}
 use Rattle.syntax.proofs.Rows.{tail-is, row-sound}
 use Rattle.syntax.proofs.Values.{value-sound}
@@ -73,33 +75,33 @@ left_is e n b (t ∷ ts) =
 
 -- ---- calls
 
-module _ (text table : List ℕ) (e n : ℕ) where
+module _ (ts : Tokens) where
   abbrev ended : ℕ → Parsed
-  ended j = parsed e n (semicolon_of (toks text table n j))
+  ended j = answer ts semicolon_of j
 
   pub call-is : (i : ℕ)
-      → parsed e n (call max_brackets (toks text table n i)) ≡ steps (parsed e n (row values (commas equal) (value names max_brackets) (toks text table n i)))
-      (word text table e n a_name ∷ word text table e n left_round ∷ listed text table e n Argument ∷ ended ∷ [])
+      → answer ts (call max_brackets) i ≡ steps (answer ts (row values (commas equal) (value names max_brackets)) i)
+      (word ts a_name ∷ word ts left_round ∷ listed ts Argument ∷ ended ∷ [])
   unfolding call
   call-is i =
-      chain text table e n i _ (word text table e n a_name ∷ word text table e n left_round ∷ listed text table e n Argument ∷ ended ∷ [])
-      (left-tails max_brackets (toks text table n i)) (λ v i.
-      chain text table e n i _ (word text table e n left_round ∷ listed text table e n Argument ∷ ended ∷ []) (expect-tails a_name (toks text table n i)) (λ m i.
-      chain text table e n i _ (listed text table e n Argument ∷ ended ∷ []) (expect-tails left_round (toks text table n i)) (λ o i.
-      chain text table e n i _ (ended ∷ []) ((row-sound plain right_round (item-sound Argument)).tails (toks text table n i)) (λ xs i. refl))))
-      ∙ ap (λ (z : Parsed). steps z (word text table e n a_name ∷ word text table e n left_round ∷ listed text table e n Argument ∷ ended ∷ []))
-      (left_is e n max_brackets (toks text table n i))
+      chain ts i _ (word ts a_name ∷ word ts left_round ∷ listed ts Argument ∷ ended ∷ [])
+      (left-tails max_brackets (from ts i)) (λ v i.
+      chain ts i _ (word ts left_round ∷ listed ts Argument ∷ ended ∷ []) (expect-tails a_name (from ts i)) (λ m i.
+      chain ts i _ (listed ts Argument ∷ ended ∷ []) (expect-tails left_round (from ts i)) (λ o i.
+      chain ts i _ (ended ∷ []) ((row-sound plain right_round (item-sound Argument)).tails (from ts i)) (λ xs i. refl))))
+      ∙ ap (λ (z : Parsed). steps z (word ts a_name ∷ word ts left_round ∷ listed ts Argument ∷ ended ∷ []))
+      (left_is (length ts.text.now) ts.count max_brackets (from ts i))
 
-  module _ (i : ℕ) {s : ℕ} (sees : s ≡ lookahead (toks text table n i)) where
-    pub at-semicolon : s ≡ semicolon → Done (i + 1) ≡ parsed e n (semicolon_of (toks text table n i))
+  module _ (i : ℕ) {s : ℕ} (sees : s ≡ lookahead (from ts i)) where
+    pub at-semicolon : s ≡ semicolon → Done (i + 1) ≡ answer ts semicolon_of i
     at-semicolon h =
-        one_more text table n i (stands text table n i sees (omega arith))
-        ∙ sym (simp (begins-look semicolon (toks text table n i) (omega arith), eq-eqb (lookahead (toks text table n i)) semicolon (sym sees ∙ h)))
+        one_more ts i (stands ts.text.now ts.table.now ts.count i sees (omega arith))
+        ∙ sym (simp (begins-look semicolon (from ts i) (omega arith), eq-eqb (lookahead (from ts i)) semicolon (sym sees ∙ h)))
 
-    pub at_none : i ≤ n → (s ≡ semicolon → ⊥) → Done i ≡ parsed e n (semicolon_of (toks text table n i))
+    pub at_none : i ≤ ts.count → (s ≡ semicolon → ⊥) → Done i ≡ answer ts semicolon_of i
     at_none l h =
-        none_more text table n i l
-        ∙ sym (simp (begins-look semicolon (toks text table n i) (omega arith), ne_eqb (lookahead (toks text table n i)) semicolon (λ z. h (sees ∙ z))))
+        none_more ts i l
+        ∙ sym (simp (begins-look semicolon (from ts i) (omega arith), ne_eqb (lookahead (from ts i)) semicolon (λ z. h (sees ∙ z))))
 
 -- ---- bodies
 
@@ -127,32 +129,34 @@ module _ (e n : ℕ) where
   after_call a [] = sym (ap (parsed e n) none-body)
   after_call a (t ∷ us) = body-by a t us (eqb (sym_of t) right_curly)
 
-  module _ (text table : List ℕ) (i : ℕ) where
-    abbrev behind : ℕ → Parsed
-    behind j =
-        cond (eqb (lookahead (toks text table n j)) right_curly) (Done (n - length (rest (toks text table n j))))
-        (parsed e n (row plain (closed right_curly) (call max_brackets) (toks text table n j)))
+module _ (ts : Tokens) (i : ℕ) where
+  abbrev behind : ℕ → Parsed
+  behind j =
+      cond (eqb (lookahead (from ts j)) right_curly) (Done (ts.count - length (rest (from ts j))))
+      (answer ts (row plain (closed right_curly) (call max_brackets)) j)
 
-    body-from : parsed e n (row plain (closed right_curly) (call max_brackets) (toks text table n i)) ≡ onwards
-        (parsed e n (call max_brackets (toks text table n i))) behind
-    body-from =
-        ap (parsed e n) (row_is plain (closed right_curly) (call max_brackets) (call-shrinks max_brackets) (toks text table n i))
-        ∙ chain text table e n i _ (behind ∷ []) (call-tails max_brackets (toks text table n i)) (λ a j. after_call a (toks text table n j))
+  body-from : answer ts (row plain (closed right_curly) (call max_brackets)) i ≡ onwards
+      (answer ts (call max_brackets) i) behind
+  body-from =
+      ap (outcome ts) (row_is plain (closed right_curly) (call max_brackets) (call-shrinks max_brackets) (from ts i))
+      ∙ chain ts i _ (behind ∷ []) (call-tails max_brackets (from ts i)) (λ a j. after_call (length ts.text.now) ts.count a (from ts j))
 
-    module _ {x : Parsed} (first : x ≡ parsed e n (call max_brackets (toks text table n i))) where
-      pub body-fell : {c q : ℕ} → x ≡ Fault c q → x ≡ parsed e n (row plain (closed right_curly) (call max_brackets) (toks text table n i))
-      body-fell f = fell behind first body-from f
+  pub body-fell : {c q : ℕ} → Fault c q ≡ answer ts (call max_brackets) i
+      → Fault c q ≡ answer ts (row plain (closed right_curly) (call max_brackets)) i
+  body-fell f = stops behind f ∙ sym body-from
 
-      module _ {j s : ℕ} (reached : x ≡ Done j) (sees : s ≡ lookahead (toks text table n j)) where
-        pub body-last : s ≡ right_curly → Done (j + 1) ≡ parsed e n (row plain (closed right_curly) (call max_brackets) (toks text table n i))
-        body-last w =
-            went behind first body-from reached
-            (rw (eq-eqb (lookahead (toks text table n j)) right_curly (sym sees ∙ w)) (one_more text table n j (stands text table n j sees (omega arith))))
+  module _ {j s : ℕ} (first : Done j ≡ answer ts (call max_brackets) i) (sees : s ≡ lookahead (from ts j)) where
+    pub body-last : s ≡ right_curly → Done (j + 1) ≡ answer ts (row plain (closed right_curly) (call max_brackets)) i
+    body-last w =
+        goes behind first
+        (rw (eq-eqb (lookahead (from ts j)) right_curly (sym sees ∙ w))
+        (one_more ts j (stands ts.text.now ts.table.now ts.count j sees (omega arith))))
+        ∙ sym body-from
 
-        pub body-next : (s ≡ right_curly → ⊥)
-            → parsed e n (row plain (closed right_curly) (call max_brackets) (toks text table n i)) ≡ parsed e n
-            (row plain (closed right_curly) (call max_brackets) (toks text table n j))
-        body-next w = sym (went behind first body-from reached (rw (ne_eqb (lookahead (toks text table n j)) right_curly (λ z. w (sees ∙ z)))))
+    pub body-next : (s ≡ right_curly → ⊥)
+        → answer ts (row plain (closed right_curly) (call max_brackets)) i ≡ outcome ts
+        (row plain (closed right_curly) (call max_brackets) (from ts j))
+    body-next w = sym (goes behind first (rw (ne_eqb (lookahead (from ts j)) right_curly (λ z. w (sees ∙ z)))) ∙ sym body-from)
 
 -- ---- documents
 
@@ -160,23 +164,23 @@ end_same : {A B : Type 0} (e n : ℕ) (a : A) (b : B) (ts : List Token) → pars
 end_same e n a b [] = refl
 end_same e n a b (t ∷ ts) = refl
 
-module _ (text table : List ℕ) (e n : ℕ) where
+module _ (ts : Tokens) where
   abbrev bodies : ℕ → Parsed
-  bodies j = parsed e n (row plain (closed right_curly) (call max_brackets) (toks text table n j))
+  bodies j = answer ts (row plain (closed right_curly) (call max_brackets)) j
 
   abbrev finish : ℕ → Parsed
-  finish j = parsed {A = List Token} e n (at_end [] (toks text table n j))
+  finish j = answer {A = List Token} ts (at_end []) j
 
-  names-tail : (i : ℕ) → Takes (toks text table n i) (row plain (commas right_round) (expect a_name) (toks text table n i))
-  names-tail i = (row-sound plain right_round (item-sound Name)).tails (toks text table n i)
+  names-tail : (i : ℕ) → Takes (from ts i) (row plain (commas right_round) (expect a_name) (from ts i))
+  names-tail i = (row-sound plain right_round (item-sound Name)).tails (from ts i)
 
-  body-tail : (i : ℕ) → Takes (toks text table n i) (row plain (closed right_curly) (call max_brackets) (toks text table n i))
-  body-tail i = row-tails plain (closed right_curly) (call max_brackets) (call-tails max_brackets) (toks text table n i)
+  body-tail : (i : ℕ) → Takes (from ts i) (row plain (closed right_curly) (call max_brackets) (from ts i))
+  body-tail i = row-tails plain (closed right_curly) (call max_brackets) (call-tails max_brackets) (from ts i)
 
-  inputs-tail : Takes (toks text table n 0) (inputs_of (toks text table n 0))
+  inputs-tail : Takes (from ts 0) (inputs_of (from ts 0))
   unfolding inputs_of
   inputs-tail =
-      then-takes (expect-tails version (toks text table n 0)) (λ v us p.
+      then-takes (expect-tails version (from ts 0)) (λ v us p.
       then-takes (further p (expect-tails a_number us)) (λ l us p.
       then-takes (further p (expect-tails graph us)) (λ g us p.
       then-takes (further p (expect-tails a_name us)) (λ m us p.
@@ -188,73 +192,77 @@ module _ (text table : List ℕ) (e n : ℕ) where
   s1 gs = bodies ∷ gs
 
   abbrev s2 : List (ℕ → Parsed) → List (ℕ → Parsed)
-  s2 gs = word text table e n left_curly ∷ s1 gs
+  s2 gs = word ts left_curly ∷ s1 gs
 
   abbrev s3 : List (ℕ → Parsed) → List (ℕ → Parsed)
-  s3 gs = listed text table e n Name ∷ s2 gs
+  s3 gs = listed ts Name ∷ s2 gs
 
   abbrev s4 : List (ℕ → Parsed) → List (ℕ → Parsed)
-  s4 gs = word text table e n left_round ∷ s3 gs
+  s4 gs = word ts left_round ∷ s3 gs
 
   abbrev rear : List (ℕ → Parsed) → List (ℕ → Parsed)
-  rear gs = word text table e n arrow ∷ s4 gs
+  rear gs = word ts arrow ∷ s4 gs
 
   abbrev s6 : List (ℕ → Parsed) → List (ℕ → Parsed)
-  s6 gs = listed text table e n Name ∷ gs
+  s6 gs = listed ts Name ∷ gs
 
   abbrev s7 : List (ℕ → Parsed) → List (ℕ → Parsed)
-  s7 gs = word text table e n left_round ∷ s6 gs
+  s7 gs = word ts left_round ∷ s6 gs
 
   abbrev s8 : List (ℕ → Parsed) → List (ℕ → Parsed)
-  s8 gs = word text table e n a_name ∷ s7 gs
+  s8 gs = word ts a_name ∷ s7 gs
 
   abbrev s9 : List (ℕ → Parsed) → List (ℕ → Parsed)
-  s9 gs = word text table e n graph ∷ s8 gs
+  s9 gs = word ts graph ∷ s8 gs
 
   abbrev front : List (ℕ → Parsed) → List (ℕ → Parsed)
-  front gs = word text table e n a_number ∷ s9 gs
+  front gs = word ts a_number ∷ s9 gs
 
-  pub inputs-is : parsed e n (inputs_of (toks text table n 0)) ≡ steps (word text table e n version 0) (front [])
+  pub inputs-is : answer ts inputs_of 0 ≡ steps (word ts version 0) (front [])
   unfolding inputs_of
   inputs-is =
-      chain text table e n 0 _ (front []) (expect-tails version (toks text table n 0)) (λ v i.
-      chain text table e n i _ (s9 []) (expect-tails a_number (toks text table n i)) (λ l i.
-      chain text table e n i _ (s8 []) (expect-tails graph (toks text table n i)) (λ g i.
-      chain text table e n i _ (s7 []) (expect-tails a_name (toks text table n i)) (λ m i.
-      chain text table e n i _ (s6 []) (expect-tails left_round (toks text table n i)) (λ o i. refl)))))
+      chain ts 0 _ (front []) (expect-tails version (from ts 0)) (λ v i.
+      chain ts i _ (s9 []) (expect-tails a_number (from ts i)) (λ l i.
+      chain ts i _ (s8 []) (expect-tails graph (from ts i)) (λ g i.
+      chain ts i _ (s7 []) (expect-tails a_name (from ts i)) (λ m i.
+      chain ts i _ (s6 []) (expect-tails left_round (from ts i)) (λ o i. refl)))))
 
-  pub graph_is : parsed e n (graph_of (toks text table n 0)) ≡ steps (parsed e n (inputs_of (toks text table n 0))) (rear [])
+  pub graph_is : answer ts graph_of 0 ≡ steps (answer ts inputs_of 0) (rear [])
   unfolding graph_of
   graph_is =
-      chain text table e n 0 _ (rear []) (inputs-tail) (λ is i.
-      chain text table e n i _ (s4 []) (expect-tails arrow (toks text table n i)) (λ a i.
-      chain text table e n i _ (s3 []) (expect-tails left_round (toks text table n i)) (λ o i.
-      chain text table e n i _ (s2 []) (names-tail i) (λ os i.
-      chain text table e n i _ (s1 []) (expect-tails left_curly (toks text table n i)) (λ q i. refl)))))
+      chain ts 0 _ (rear []) (inputs-tail) (λ is i.
+      chain ts i _ (s4 []) (expect-tails arrow (from ts i)) (λ a i.
+      chain ts i _ (s3 []) (expect-tails left_round (from ts i)) (λ o i.
+      chain ts i _ (s2 []) (names-tail i) (λ os i.
+      chain ts i _ (s1 []) (expect-tails left_curly (from ts i)) (λ q i. refl)))))
 
-  pub document-is : parsed e n (document max_brackets (toks text table n 0)) ≡ onwards (parsed e n (graph_of (toks text table n 0))) finish
+  pub document-is : answer ts (document max_brackets) 0 ≡ onwards (answer ts graph_of 0) finish
   unfolding document
   document-is =
-      chain text table e n 0 _ (front (rear (finish ∷ []))) (expect-tails version (toks text table n 0)) (λ v i.
-      chain text table e n i _ (s9 (rear (finish ∷ []))) (expect-tails a_number (toks text table n i)) (λ l i.
-      chain text table e n i _ (s8 (rear (finish ∷ []))) (expect-tails graph (toks text table n i)) (λ g i.
-      chain text table e n i _ (s7 (rear (finish ∷ []))) (expect-tails a_name (toks text table n i)) (λ m i.
-      chain text table e n i _ (s6 (rear (finish ∷ []))) (expect-tails left_round (toks text table n i)) (λ o i.
-      chain text table e n i _ (rear (finish ∷ [])) (names-tail i) (λ is i.
-      chain text table e n i _ (s4 (finish ∷ [])) (expect-tails arrow (toks text table n i)) (λ a i.
-      chain text table e n i _ (s3 (finish ∷ [])) (expect-tails left_round (toks text table n i)) (λ o i.
-      chain text table e n i _ (s2 (finish ∷ [])) (names-tail i) (λ os i.
-      chain text table e n i _ (s1 (finish ∷ [])) (expect-tails left_curly (toks text table n i)) (λ q i.
-      chain text table e n i _ (finish ∷ []) (body-tail i)
-      (λ cs i. end_same e n (record { version = l; graph = m; inputs = is; outputs = os; calls = cs }) [] (toks text table n i))))))))))))
-      ∙ (ap (λ (z : Parsed). steps z (rear (finish ∷ []))) (sym inputs-is) ∙ ap (λ (z : Parsed). onwards z finish) (sym graph_is))
+      chain ts 0 _ (front (rear (finish ∷ []))) (expect-tails version (from ts 0)) (λ v i.
+      chain ts i _ (s9 (rear (finish ∷ []))) (expect-tails a_number (from ts i)) (λ l i.
+      chain ts i _ (s8 (rear (finish ∷ []))) (expect-tails graph (from ts i)) (λ g i.
+      chain ts i _ (s7 (rear (finish ∷ []))) (expect-tails a_name (from ts i)) (λ m i.
+      chain ts i _ (s6 (rear (finish ∷ []))) (expect-tails left_round (from ts i)) (λ o i.
+      chain ts i _ (rear (finish ∷ [])) (names-tail i) (λ is i.
+      chain ts i _ (s4 (finish ∷ [])) (expect-tails arrow (from ts i)) (λ a i.
+      chain ts i _ (s3 (finish ∷ [])) (expect-tails left_round (from ts i)) (λ o i.
+      chain ts i _ (s2 (finish ∷ [])) (names-tail i) (λ os i.
+      chain ts i _ (s1 (finish ∷ [])) (expect-tails left_curly (from ts i)) (λ q i.
+      chain ts i _ (finish ∷ []) (body-tail i)
+      (λ cs i. end_same (length ts.text.now) ts.count (record { version = l; graph = m; inputs = is; outputs = os; calls = cs }) [] (from ts i))))))))))))
+      ∙ steps-append (word ts version 0) (front []) (rear (finish ∷ []))
+      ∙ ap (λ (z : Parsed). steps z (rear (finish ∷ []))) (sym inputs-is)
+      ∙ steps-append (answer ts inputs_of 0) (rear []) (finish ∷ [])
+      ∙ ap (λ (z : Parsed). onwards z finish) (sym graph_is)
 
-  pub at_rest : {r : Parsed} (j : ℕ) → j < n → r ≡ Fault 9 (place_of e (toks text table n j)) → r ≡ finish j
-  at_rest j h p =
-      p ∙ ap (λ (ts : List Token). Fault 9 (place_of e ts)) (toks_more text table n j h)
-      ∙ sym (ap (λ (ts : List Token). parsed {A = List Token} e n (at_end [] ts)) (toks_more text table n j h))
+  pub at_rest : (j : ℕ) → j < ts.count → Fault 9 (place_of (length ts.text.now) (from ts j)) ≡ finish j
+  at_rest j h =
+      ap (λ (ws : List Token). Fault 9 (place_of (length ts.text.now) ws)) (toks_more ts.text.now ts.table.now ts.count j h)
+      ∙ sym (ap (λ (ws : List Token). outcome {A = List Token} ts (at_end [] ws)) (toks_more ts.text.now ts.table.now ts.count j h))
 
-  pub at-end : (j : ℕ) → n ≤ j → Done n ≡ finish j
+  pub at-end : (j : ℕ) → ts.count ≤ j → Done ts.count ≡ finish j
   at-end j h =
-      let q : n ≡ n - 0 = omega arith in
-      ap Done q ∙ sym (ap (λ (ts : List Token). parsed {A = List Token} e n (at_end [] ts)) (toks-none text table n j h))
+      let q : ts.count ≡ ts.count - 0 = omega arith in
+      ap Done q
+      ∙ sym (ap (λ (ws : List Token). outcome {A = List Token} ts (at_end [] ws)) (toks-none ts.text.now ts.table.now ts.count j h))

@@ -19,7 +19,6 @@ pub mod Decode
 pub mod Chain
 pub mod Symbols
 pub mod Rows
-pub mod Reached
 pub mod Values
 pub mod TypeSpecs
 pub mod Lists

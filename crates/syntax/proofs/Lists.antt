@@ -9,9 +9,10 @@ use mathlib.Core.List.{List, [], ◌∷◌}
 use lib.Dec.{eqb}
 use borrow.Author.Tests.{eq-eqb, ne_eqb, eqb-true}
 use Rattle.lexis.specs.Sizes.{max_brackets}
+use lib.ListN.{length}
 use Rattle.lexis.specs.Lexer.{Token}
-use Rattle.syntax.specs.declared.Parsed.{Parsed}
-use Rattle.syntax.specs.declared.Parsed.TheVariants.{Done}
+use Rattle.syntax.specs.Read.{Parsed}
+use Rattle.syntax.specs.Read.Parsed.{Done}
 use Rattle.syntax.specs.declared.list.Item.{Item}
 use Rattle.syntax.specs.declared.list.Item.TheVariants.{Name, Parameter, Result, Argument}
 use Rattle.lexis.specs.Symbol.{sym_of, is_literal, left_round, right_round, left_square, colon, equal, a_name, minus, a_number}
@@ -23,13 +24,15 @@ use Rattle.syntax.specs.Parser.{Parse, then, mapped, expect, begins, rest, row, 
 use Rattle.syntax.specs.Parser.{tuple_items, value, type, default, param, typed_name, labelled, argument}
 use Rattle.syntax.specs.Parser.Parse.{ok, bad}
 use Rattle.syntax.specs.Table.{toks, parsed}
-use Rattle.syntax.specs.Inner.{lookahead, onwards, is_label, reader}
+use Rattle.syntax.specs.Tokens.{from, answer}
+use Rattle.syntax.specs.declared.tokens.Tokens.{Tokens}
+use Rattle.syntax.specs.Inner.{lookahead, is_label, reader}
 use Rattle.syntax.proofs.Row.{cond_has}
 use Rattle.syntax.proofs.Shrinks.{expect-shrinks, param-shrinks, result-shrinks, argument-shrinks}
 use Rattle.syntax.proofs.Tails.{expect-tails, type-tails, param-tails, result-tails, argument-tails}
 use Rattle.syntax.proofs.Table.{toks-rest}
-use Rattle.syntax.proofs.Chain.{clash, chain, steps, mapped-same}
-use Rattle.syntax.proofs.Symbols.{begins-look, stands, none_more}
+use Rattle.syntax.proofs.Chain.{outcome, onwards, clash, chain, steps, steps-append, mapped-same}
+use Rattle.syntax.proofs.Symbols.{begins-look, stands, none_more, answer-rest}
 use Rattle.syntax.proofs.Rows.{Sound}
 
 pub item-sound : (w : Item) → Sound (reader w)
@@ -39,15 +42,11 @@ item-sound Result = record { small = result-shrinks max_brackets; tails = result
 item-sound Argument = record { small = argument-shrinks max_brackets; tails = argument-tails max_brackets }
 
 -- a terminal, and a list, from the place j on
-abbrev pub word : List ℕ → List ℕ → ℕ → ℕ → ℕ → ℕ → Parsed
-word text table e n s j = parsed e n (expect s (toks text table n j))
+abbrev pub word : Tokens → ℕ → ℕ → Parsed
+word ts s j = answer ts (expect s) j
 
-abbrev pub listed : List ℕ → List ℕ → ℕ → ℕ → Item → ℕ → Parsed
-listed text table e n w j = parsed e n (row plain (commas right_round) (reader w) (toks text table n j))
-
--- the reader of the items that a list is said to be of
-pub item-told : (e n : ℕ) (ts : List Token) {v w : Item} {r : Parsed} → v ≡ w → r ≡ parsed e n (reader w ts) → r ≡ parsed e n (reader v ts)
-item-told e n ts h p = p ∙ ap (λ (x : Item). parsed e n (reader x ts)) (sym h)
+abbrev pub listed : Tokens → Item → ℕ → Parsed
+listed ts w j = answer ts (row plain (commas right_round) (reader w)) j
 
 -- ---- results and parameters
 
@@ -59,27 +58,28 @@ default-some : (e n b : ℕ) (ts : List Token) → lookahead ts ≡ equal → pa
 unfolding default
 default-some e n b ts h = simp (begins-look equal ts (omega arith), eq-eqb (lookahead ts) equal h) (mapped-same e n (λ v. some v) (value literals b (rest ts)))
 
-module _ (text table : List ℕ) (e n i b : ℕ) where
+module _ (ts : Tokens) (i b : ℕ) where
   abbrev typed : ℕ → Parsed
-  typed j = parsed e n (type b (toks text table n j))
+  typed j = answer ts (type b) j
 
   abbrev defaults : ℕ → Parsed
-  defaults j = parsed e n (default b (toks text table n j))
+  defaults j = answer ts (default b) j
 
-  pub result-is : parsed e n (typed_name b (toks text table n i)) ≡ steps (word text table e n a_name i) (word text table e n colon ∷ typed ∷ [])
+  pub result-is : answer ts (typed_name b) i ≡ steps (word ts a_name i) (word ts colon ∷ typed ∷ [])
   unfolding typed_name
   result-is =
-      chain text table e n i _ (word text table e n colon ∷ typed ∷ []) (expect-tails a_name (toks text table n i)) (λ m j.
-      chain text table e n j _ (typed ∷ []) (expect-tails colon (toks text table n j)) (λ c k.
-      mapped-same e n (λ u. record { name = m; ty = u }) (type b (toks text table n k))))
+      chain ts i _ (word ts colon ∷ typed ∷ []) (expect-tails a_name (from ts i)) (λ m j.
+      chain ts j _ (typed ∷ []) (expect-tails colon (from ts j)) (λ c k.
+      mapped-same (length ts.text.now) ts.count (λ u. record { name = m; ty = u }) (type b (from ts k))))
 
-  pub param_is : parsed e n (param b (toks text table n i)) ≡ onwards (parsed e n (typed_name b (toks text table n i))) defaults
+  pub param_is : answer ts (param b) i ≡ onwards (answer ts (typed_name b) i) defaults
   unfolding param
   param_is =
-      chain text table e n i _ (word text table e n colon ∷ typed ∷ defaults ∷ []) (expect-tails a_name (toks text table n i)) (λ m j.
-      chain text table e n j _ (typed ∷ defaults ∷ []) (expect-tails colon (toks text table n j)) (λ c k.
-      chain text table e n k _ (defaults ∷ []) (type-tails b (toks text table n k)) (λ u l.
-      mapped-same e n (λ d. record { name = m; ty = u; default = d }) (default b (toks text table n l)))))
+      chain ts i _ (word ts colon ∷ typed ∷ defaults ∷ []) (expect-tails a_name (from ts i)) (λ m j.
+      chain ts j _ (typed ∷ defaults ∷ []) (expect-tails colon (from ts j)) (λ c k.
+      chain ts k _ (defaults ∷ []) (type-tails b (from ts k)) (λ u l.
+      mapped-same (length ts.text.now) ts.count (λ d. record { name = m; ty = u; default = d }) (default b (from ts l)))))
+      ∙ steps-append (word ts a_name i) (word ts colon ∷ typed ∷ []) (defaults ∷ [])
       ∙ ap (λ (z : Parsed). onwards z defaults) (sym result-is)
 
 -- ---- arguments
@@ -163,43 +163,46 @@ argument-other e n (suc b) (t ∷ us) h = other-by e n (suc b) t us _ _ refl ref
 
 -- ---- the ways out of the code, by the terminal s at place i
 
-module _ (text table : List ℕ) (n i : ℕ) {s : ℕ} (sees : s ≡ lookahead (toks text table n i)) where
-  pub no_label : (s ≡ a_name → ⊥) → false ≡ is_label (toks text table n i)
-  no_label h = simp (ne_eqb (lookahead (toks text table n i)) a_name (λ z. h (sees ∙ z)))
+module _ (ts : Tokens) (i : ℕ) {s : ℕ} (sees : s ≡ lookahead (from ts i)) where
+  pub no_label : (s ≡ a_name → ⊥) → eqb s a_name ≡ is_label (from ts i)
+  no_label h = ne_eqb s a_name h ∙ simp (ne_eqb (lookahead (from ts i)) a_name (λ z. h (sees ∙ z)))
 
-  pub name-label : {s' : ℕ} → s' ≡ lookahead (toks text table n (i + 1)) → s ≡ a_name → eqb s' equal ≡ is_label (toks text table n i)
+  pub name-label : {s' : ℕ} → s' ≡ lookahead (from ts (i + 1)) → s ≡ a_name → eqb s' equal ≡ is_label (from ts i)
   name-label w h =
-      ap (λ (k : ℕ). eqb k equal) (w ∙ ap lookahead (sym (toks-rest text table n i))) ∙ simp (eq-eqb (lookahead (toks text table n i)) a_name (sym sees ∙ h))
+      ap (λ (k : ℕ). eqb k equal) (w ∙ ap lookahead (sym (toks-rest ts.text.now ts.table.now ts.count i)))
+      ∙ simp (eq-eqb (lookahead (from ts i)) a_name (sym sees ∙ h))
 
-  module _ (e b : ℕ) where
-    pub at_none : i ≤ n → (s ≡ equal → ⊥) → Done i ≡ parsed e n (default b (toks text table n i))
-    at_none l h = none_more text table n i l ∙ sym (ap (parsed e n) (default_none b _ (λ z. h (sees ∙ z))))
+  module _ (b : ℕ) where
+    pub at_none : i ≤ ts.count → (s ≡ equal → ⊥) → Done i ≡ answer ts (default b) i
+    at_none l h = none_more ts i l ∙ sym (ap (outcome ts) (default_none b _ (λ z. h (sees ∙ z))))
 
-    pub at_default : {r : Parsed} → s ≡ equal → r ≡ parsed e n (value literals b (toks text table n (i + 1))) → r ≡ parsed e n (default b (toks text table n i))
+    pub at_default : {r : Parsed} → s ≡ equal → r ≡ answer ts (value literals b) (i + 1) → r ≡ answer ts (default b) i
     at_default h p =
-        p ∙ (ap (λ (ts : List Token). parsed e n (value literals b ts)) (sym (toks-rest text table n i)) ∙ sym (default-some e n b _ (sym sees ∙ h)))
+        p ∙ answer-rest ts i (value literals b) ∙ sym (default-some (length ts.text.now) ts.count b _ (sym sees ∙ h))
 
 module _ (text table : List ℕ) (n i : ℕ) where
   -- where a label stands there are two tokens
   pub label-stands : is_label (toks text table n i) ≡ true → i + 1 < n
   label-stands h = go _ _ refl refl h
     where
-      go : (p q : Bool) → eqb (lookahead (toks text table n i)) a_name ≡ p → eqb (lookahead (rest (toks text table n i))) equal ≡ q → (p && q) ≡ true → i + 1 < n
+      go : (p q : Bool) → eqb (lookahead (toks text table n i)) a_name ≡ p → eqb (lookahead (rest (toks text table n i))) equal ≡ q → (p && q) ≡ true
+          → i + 1 < n
       go true true x y z =
           stands text table n (i + 1) (sym (eqb-true _ _ (sym (ap (λ (ts : List Token). eqb (lookahead ts) equal) (toks-rest text table n i)) ∙ y)))
           (omega arith)
       go true false x y z = clash z
       go false q x y z = clash z
 
-  module _ (e b : ℕ) {r : Parsed} where
-    pub at_label : is_label (toks text table n i) ≡ true → r ≡ parsed e n (value both b (toks text table n (i + 2)))
-        → r ≡ parsed e n (argument b (toks text table n i))
-    at_label h p =
-        let q : i + 2 ≡ i + 1 + 1 = omega arith in
-        p ∙ (ap (λ (k : ℕ). parsed e n (value both b (toks text table n k))) q
-        ∙ (ap (λ (ts : List Token). parsed e n (value both b ts)) (sym (toks-rest text table n (i + 1)))
-        ∙ (ap (λ (ts : List Token). parsed e n (value both b (rest ts))) (sym (toks-rest text table n i)) ∙ sym (argument-label e n b _ h))))
+module _ (ts : Tokens) (i b : ℕ) {r : Parsed} where
+  pub at_label : is_label (from ts i) ≡ true → r ≡ answer ts (value both b) (i + 2)
+      → r ≡ answer ts (argument b) i
+  at_label h p =
+      let q : i + 2 ≡ i + 1 + 1 = omega arith in
+      p ∙ ap (λ (k : ℕ). answer ts (value both b) k) q
+      ∙ answer-rest ts (i + 1) (value both b)
+      ∙ answer-rest ts i (λ ws. value both b (rest ws))
+      ∙ sym (argument-label (length ts.text.now) ts.count b _ h)
 
-    pub at_other : is_label (toks text table n i) ≡ false → r ≡ parsed e n (value both b (toks text table n i))
-        → r ≡ parsed e n (argument b (toks text table n i))
-    at_other h p = p ∙ sym (argument-other e n b _ h)
+  pub at_other : is_label (from ts i) ≡ false → r ≡ answer ts (value both b) i
+      → r ≡ answer ts (argument b) i
+  at_other h p = p ∙ sym (argument-other (length ts.text.now) ts.count b _ h)

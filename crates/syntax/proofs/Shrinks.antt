@@ -10,7 +10,8 @@ use native.Mathlib.Omega.{arith}
 use lib.Dec.{eqb}
 use lib.ListN.{length}
 use Rattle.lexis.specs.Lexer.{Token}
-use Rattle.lexis.specs.Symbol.{sym_of, is_literal, left_round, left_square, right_square, colon, equal, comma, semicolon, arrow, a_name, fragment, minus, a_number}
+use Rattle.lexis.specs.Symbol.{sym_of, is_literal, left_round, left_square, right_square, colon, equal, comma, semicolon, arrow, a_name, fragment}
+use Rattle.lexis.specs.Symbol.{minus, a_number}
 use Rattle.syntax.specs.Tree.{Value, Ty}
 use Rattle.syntax.specs.Tree.Value.{name, literal, array, tuple}
 use Rattle.syntax.specs.Tree.Ty.{array_of}

@@ -266,7 +266,8 @@ a-base = record { tokens = scalar-token.token ∷ []; tree = scalar; reaches = �
 a-type-sample : {b : ℕ} → Completes IsType b []
 a-type-sample = record { tokens = scalar-token.token ∷ []; tree = scalar; reaches = λ c ws k. is_base scalar-token.is no-pair }
 
-tuple-types-reads : {b : ℕ} {f : Reader Ty} → Shrinks f → Reads IsType b f → (t : Token) → sym_of t ≡ left_round → Reads (Past (Inside Base) t) b (tuple_types f)
+tuple-types-reads : {b : ℕ} {f : Reader Ty} → Shrinks f → Reads IsType b f → (t : Token) → sym_of t ≡ left_round
+    → Reads (Past (Inside Base) t) b (tuple_types f)
 unfolding tuple_types
 tuple-types-reads s h t e =
     after IsType _ h (λ w.
@@ -433,7 +434,8 @@ left-right : (b : ℕ) (ts : List Token) → Right IsLeft b ts (left b ts)
 unfolding left
 left-right b [] = nine [] refl a-left
 left-right b (t ∷ ts) =
-    from-right (Spells names) IsLeft _ ((value-reads names b).each (t ∷ ts)) is-left (λ v us q d e h. left-from b t ts v us q e h ((left-from-first t v).each us))
+    from-right (Spells names) IsLeft _ ((value-reads names b).each (t ∷ ts)) is-left
+    (λ v us q d e h. left-from b t ts v us q e h ((left-from-first t v).each us))
 
 pub left-reads : (b : ℕ) → Reads IsLeft b (left b)
 left-reads b = record { each = left-right b; some = a-left }
@@ -449,7 +451,8 @@ end_reads {A} {T} {b} a h = record { each = go; some = none_more.some }
     go : (us : List Token) → Right T b us (ok a (cond (begins semicolon us) (rest us) us))
     go [] = none_more.each []
     go (t ∷ us) =
-        choice (λ x. Right T b (t ∷ us) (ok a x)) (eqb (sym_of t) semicolon) (λ e. good (t ∷ []) refl (λ c ws k. h c (t ∷ ws) ws (a-semicolon (eqb-true _ _ e))))
+        choice (λ x. Right T b (t ∷ us) (ok a x)) (eqb (sym_of t) semicolon)
+        (λ e. good (t ∷ []) refl (λ c ws k. h c (t ∷ ws) ws (a-semicolon (eqb-true _ _ e))))
         (λ _.
         none_more.each (t ∷ us))
 

@@ -9,13 +9,15 @@ use lib.ListN.{length, get_or}
 use borrow.Author.Tests.{leb-true, leb-false, eq-eqb, ne_eqb}
 use Rattle.lexis.specs.Lexer.{Token}
 use Rattle.lexis.specs.Sizes.{first_mark}
-use Rattle.syntax.specs.declared.Parsed.TheVariants.{Done, Fault}
+use Rattle.syntax.specs.Read.Parsed.{Done, Fault}
 use Rattle.lexis.specs.Symbol.{sym_of}
 use Rattle.syntax.specs.Parser.{Reader, begins, rest, expect}
 use Rattle.syntax.specs.Parser.Parse.{bad}
 use Rattle.syntax.specs.Table.{start_at, token_at, toks, Holds, place_of, parsed}
 use Rattle.syntax.specs.Inner.{the_end, lookahead}
-use Rattle.syntax.proofs.Chain.{clash}
+use Rattle.syntax.specs.Tokens.{from, answer}
+use Rattle.syntax.specs.declared.tokens.Tokens.{Tokens}
+use Rattle.syntax.proofs.Chain.{outcome, clash}
 use Rattle.syntax.proofs.Table.{toks-none, toks_more, toks-length, toks-rest}
 
 module _ (text table : List ℕ) (n i : ℕ) where
@@ -48,17 +50,19 @@ module _ (text table : List ℕ) (n i : ℕ) where
       go true q = clash (sym z ∙ (ap f (look_none (leb-true n i q) ∙ sym e) ∙ h))
       go false q = leb-false n i q
 
-  -- past one token
-  pub one_more : i < n → Done (i + 1) ≡ Done (n - length (rest (toks text table n i)))
-  one_more h =
-      let l : length (rest (toks text table n i)) ≡ n - (i + 1) = ap (λ (ws : List Token). length ws) (toks-rest text table n i)
-      ∙ toks-length text table n (i + 1) in
-      let q : i + 1 ≡ n - length (rest (toks text table n i)) = omega arith in
-      ap Done q
+-- past one token, past none, and what is read after one token
+module _ (ts : Tokens) (i : ℕ) where
+  rest-length : length (rest (from ts i)) ≡ ts.count - (i + 1)
+  rest-length = ap (λ (ws : List Token). length ws) (toks-rest ts.text.now ts.table.now ts.count i) ∙ toks-length ts.text.now ts.table.now ts.count (i + 1)
 
-  -- past none
-  pub none_more : i ≤ n → Done i ≡ Done (n - length (toks text table n i))
-  none_more h = let q : i ≡ n - length (toks text table n i) = omega (arith, toks-length text table n i) in ap Done q
+  pub one_more : i < ts.count → Done (i + 1) ≡ Done (ts.count - length (rest (from ts i)))
+  one_more h = let q : i + 1 ≡ ts.count - length (rest (from ts i)) = omega (arith, rest-length) in ap Done q
+
+  pub none_more : i ≤ ts.count → Done i ≡ Done (ts.count - length (from ts i))
+  none_more h = let q : i ≡ ts.count - length (from ts i) = omega (arith, toks-length ts.text.now ts.table.now ts.count i) in ap Done q
+
+  pub answer-rest : {A : Type 0} (r : Reader A) → answer ts r (i + 1) ≡ outcome ts (r (rest (from ts i)))
+  answer-rest r = ap (λ (ws : List Token). outcome ts (r ws)) (sym (toks-rest ts.text.now ts.table.now ts.count i))
 
 -- ---- one terminal
 

@@ -6,10 +6,9 @@ use mathlib.Core.Option.{none as nothing}
 use Prim.Native.Nat.{ℕ, zero, suc}
 use lib.Dec.{eqb}
 use lib.ListN.{length}
-use Rattle.lexis.specs.Sizes.{max_brackets}
 use Rattle.lexis.specs.Lexer.{Token}
-use Rattle.lexis.specs.Symbol.{sym_of, is_literal, left_round, left_square, right_square, colon, equal, comma, semicolon, left_curly, arrow, a_name, a_number}
-use Rattle.lexis.specs.Symbol.{version, minus, graph, fragment}
+use Rattle.lexis.specs.Symbol.{sym_of, is_literal, left_round, left_square, right_square, colon, equal, comma, semicolon, arrow, a_name, a_number}
+use Rattle.lexis.specs.Symbol.{minus, fragment}
 use Rattle.syntax.specs.Tree.{Value, Ty}
 use Rattle.syntax.specs.Tree.Value.{name, literal, array, tuple}
 use Rattle.syntax.specs.Tree.Ty.{array_of}
@@ -17,7 +16,7 @@ use Rattle.syntax.specs.Grammar.{Leaves, names, literals, both, takes_names, tak
 use Rattle.syntax.specs.Parser.{Parse, Reader, Row, Follow, Lists, then, mapped, expect, begins, rest, follow, onward, row_f, row, negative}
 use Rattle.syntax.specs.Parser.{value_step, array_items}
 use Rattle.syntax.specs.Parser.{tuple_items, bracketed, value, type_name, dims, tuple_types, named-type, base_step, type, default, param, typed_name, header}
-use Rattle.syntax.specs.Parser.{labelled, argument, left, call, operations, at_end, document, parse_list, parse_document}
+use Rattle.syntax.specs.Parser.{labelled, argument, left, call}
 use Rattle.syntax.specs.Parser.Parse.{ok, bad}
 use Rattle.syntax.specs.Parser.Row.{commas, closed, to_the_end}
 use Rattle.syntax.specs.Parser.Follow.{again, done, neither}
@@ -243,30 +242,3 @@ call-tails b ts =
     then-takes (further p (expect-tails left_round us)) (λ o us p.
     then-takes (further p (row-tails _ _ _ (argument-tails b) us)) (λ xs us p.
     took (cond_has (λ (ws : List Token). Suffix ts ws) (begins semicolon us) (past-rest us p) p)))))
-
-end-tails : {A : Type 0} (a : A) → Tails (at_end a)
-end-tails a [] = took all
-end-tails a (t ∷ ts) = fault all
-
--- ---- whole texts
-
-pub list-tails : Tails parse_list
-unfolding operations
-list-tails [] = took all
-list-tails (t ∷ ts) = row-tails _ _ _ (header-tails max_brackets) (t ∷ ts)
-
-pub document-tails : Tails parse_document
-unfolding document
-document-tails ts =
-    then-takes (expect-tails version ts) (λ v us p.
-    then-takes (further p (expect-tails a_number us)) (λ l us p.
-    then-takes (further p (expect-tails graph us)) (λ g us p.
-    then-takes (further p (expect-tails a_name us)) (λ n us p.
-    then-takes (further p (expect-tails left_round us)) (λ o us p.
-    then-takes (further p (row-tails _ _ _ (expect-tails a_name) us)) (λ is us p.
-    then-takes (further p (expect-tails arrow us)) (λ a us p.
-    then-takes (further p (expect-tails left_round us)) (λ o us p.
-    then-takes (further p (row-tails _ _ _ (expect-tails a_name) us)) (λ os us p.
-    then-takes (further p (expect-tails left_curly us)) (λ q us p.
-    then-takes (further p (row-tails _ _ _ (call-tails max_brackets) us)) (λ cs us p.
-    further p (end-tails _ us))))))))))))

@@ -10,31 +10,29 @@ use lib.Dec.{eqb, ltb}
 use lib.ListN.{length}
 use borrow.Author.Tests.{eq-eqb, ne_eqb, lt-ltb, le-ltb}
 use Rattle.lexis.specs.Lexer.{Token}
-use Rattle.syntax.specs.declared.Parsed.{Parsed}
-use Rattle.syntax.specs.declared.Parsed.TheVariants.{Done, Fault}
-use Rattle.lexis.specs.Symbol.{sym_of, left_round, right_round, left_square, right_square, comma, tensor_word, extent_word, scalar_word, logical_word, string_word}
+use Rattle.syntax.specs.Read.{Parsed}
+use Rattle.syntax.specs.Read.Parsed.{Done, Fault}
+use Rattle.lexis.specs.Symbol.{sym_of, left_round, right_round, left_square, right_square, comma, tensor_word, extent_word, scalar_word, logical_word}
+use Rattle.lexis.specs.Symbol.{string_word}
 use Rattle.syntax.specs.Tree.{Ty}
 use Rattle.syntax.specs.Tree.Ty.{tensor, extent, scalar, logical, string, array_of, tuple_of}
 use Rattle.syntax.specs.Tree.Tys.{a-type}
-use Rattle.syntax.specs.Parser.{Parse, Reader, expect, rest, row, types, commas, type_name, dims, tuple_types, named-type, base_step, type}
+use Rattle.syntax.specs.Parser.{Parse, Reader, then, expect, rest, row, types, commas, type_name, dims, tuple_types, named-type, base_step, type}
 use Rattle.syntax.specs.Parser.Parse.{ok, bad}
-use Rattle.syntax.specs.Table.{toks, place_of, parsed}
-use Rattle.syntax.specs.Inner.{lookahead, onwards, is_type_word, base_of}
+use Rattle.syntax.specs.Table.{place_of, parsed}
+use Rattle.syntax.specs.Tokens.{from, answer}
+use Rattle.syntax.specs.declared.tokens.Tokens.{Tokens}
+use Rattle.syntax.specs.Inner.{lookahead, is_type_word, base_of}
 use Rattle.syntax.proofs.Shrinks.{type-shrinks}
 use Rattle.syntax.proofs.Tails.{expect-tails, type-tails, base-tails}
-use Rattle.syntax.proofs.Table.{toks-rest}
-use Rattle.syntax.proofs.Chain.{clash, chain, mapped-same}
-use Rattle.syntax.proofs.Symbols.{begun, end-not, stands_by, one_more, none_more}
+use Rattle.syntax.proofs.Chain.{outcome, onwards, clash, chain, steps, mapped-same}
+use Rattle.syntax.proofs.Symbols.{begun, end-not, stands_by, one_more, none_more, answer-rest}
 use Rattle.syntax.proofs.Rows.{Sound}
 
 pub type-sound : (b : ℕ) → Sound (type b)
 type-sound b = record { small = type-shrinks b; tails = type-tails b }
 
 -- ---- the names of types
-
-pub word-not : (s : ℕ) → (s ≡ tensor_word → ⊥) → (s ≡ extent_word → ⊥) → (s ≡ scalar_word → ⊥) → (s ≡ logical_word → ⊥) → eqb s string_word ≡ is_type_word s
-unfolding is_type_word
-word-not s a b c d = simp (ne_eqb s tensor_word a, ne_eqb s extent_word b, ne_eqb s scalar_word c, ne_eqb s logical_word d)
 
 named_by : (e n : ℕ) (t : Token) (us : List Token) (a b c d f : Bool) → cond a true (cond b true (cond c true (cond d true f))) ≡ true
     → parsed e n (named-type (cond a (some tensor) (cond b (some extent) (cond c (some scalar) (cond d (some logical) (cond f (some string) nothing))))) t us)
@@ -71,7 +69,8 @@ module _ (e n : ℕ) (opened : Token → Reader Ty) where
       simp (ne_eqb (sym_of t) left_round (round-not (sym_of t) h))
       (named_by e n t us (eqb s tensor_word) (eqb s extent_word) (eqb s scalar_word) (eqb s logical_word) (eqb s string_word) h)
 
-  base-not : (ts : List Token) → is_type_word (lookahead ts) ≡ false → (lookahead ts ≡ left_round → ⊥) → parsed e n (base_step opened ts) ≡ Fault 9 (place_of e ts)
+  base-not : (ts : List Token) → is_type_word (lookahead ts) ≡ false → (lookahead ts ≡ left_round → ⊥)
+      → parsed e n (base_step opened ts) ≡ Fault 9 (place_of e ts)
   unfolding base_step type_name is_type_word
   base-not [] h z = refl
   base-not (t ∷ us) h z =
@@ -151,96 +150,86 @@ dims-full u [] h = absurd (end-not left_square (omega arith) h)
 dims-full u (o ∷ []) h = simp (eq-eqb (sym_of o) left_square h)
 dims-full u (o ∷ c ∷ ts) h = simp (eq-eqb (sym_of o) left_square h)
 
-dims-half : (u : Ty) (ts : List Token) → lookahead ts ≡ left_square → (lookahead (rest ts) ≡ right_square → ⊥) → dims true u ts ≡ bad 9 (rest ts)
-unfolding dims
-dims-half u [] h k = absurd (end-not left_square (omega arith) h)
-dims-half u (o ∷ []) h k = simp (eq-eqb (sym_of o) left_square h)
-dims-half u (o ∷ c ∷ ts) h k = simp (eq-eqb (sym_of o) left_square h, ne_eqb (sym_of c) right_square k)
-
-dims-pair : (u : Ty) (ts : List Token) → lookahead ts ≡ left_square → lookahead (rest ts) ≡ right_square → dims true u ts ≡ dims true (array_of u) (rest (rest ts))
-unfolding dims
-dims-pair u [] h k = absurd (end-not left_square (omega arith) h)
-dims-pair u (o ∷ []) h k = absurd (end-not right_square (omega arith) k)
-dims-pair u (o ∷ c ∷ ts) h k = simp (eq-eqb (sym_of o) left_square h, eq-eqb (sym_of c) right_square k)
+-- with a bracket and room for it: the closing bracket, and the pairs after it
+dims-next : (u : Ty) (ts : List Token) → lookahead ts ≡ left_square → dims true u ts ≡ then (expect right_square (rest ts)) (λ c us. dims true (array_of u) us)
+unfolding dims expect
+dims-next u [] h = absurd (end-not left_square (omega arith) h)
+dims-next u (o ∷ []) h = simp (eq-eqb (sym_of o) left_square h)
+dims-next u (o ∷ c ∷ ts) h = simp (eq-eqb (sym_of o) left_square h) (go (eqb (sym_of c) right_square))
+  where
+    go : (p : Bool) → cond p (dims true (array_of u) ts) (bad 9 (c ∷ ts)) ≡ then (cond p (ok c ts) (bad 9 (c ∷ ts))) (λ c us. dims true (array_of u) us)
+    go true = refl
+    go false = refl
 
 -- ---- the parts of a type
 
-pub type-is : (text table : List ℕ) (e n i b : ℕ)
-    → parsed e n (type b (toks text table n i)) ≡ onwards (parsed e n (base_of b (toks text table n i)))
-    (λ j. parsed e n (dims (ltb 0 b) tensor (toks text table n j)))
-unfolding type base_of
-type-is text table e n i zero =
-    chain text table e n i (dims false) ((λ j. parsed e n (dims false tensor (toks text table n j))) ∷ []) (base-tails zero (toks text table n i))
-    (λ u j. dims-any e n false u tensor (toks text table n j))
-type-is text table e n i (suc b) =
-    let h : 0 < suc b = omega arith in
-    rw (lt-ltb 0 (suc b))
-    (chain text table e n i (dims true) ((λ j. parsed e n (dims true tensor (toks text table n j))) ∷ []) (base-tails (suc b) (toks text table n i))
-    (λ u j. dims-any e n true u tensor (toks text table n j)))
+module _ (ts : Tokens) (i : ℕ) where
+  pub type-is : (b : ℕ)
+      → answer ts (type b) i ≡ onwards (answer ts (base_of b) i)
+      (λ j. answer ts (dims (ltb 0 b) tensor) j)
+  unfolding type base_of
+  type-is zero =
+      chain ts i (dims false) ((λ j. answer ts (dims false tensor) j) ∷ []) (base-tails zero (from ts i))
+      (λ u j. dims-any (length ts.text.now) ts.count false u tensor (from ts j))
+  type-is (suc b) =
+      let h : 0 < suc b = omega arith in
+      rw (lt-ltb 0 (suc b))
+      (chain ts i (dims true) ((λ j. answer ts (dims true tensor) j) ∷ []) (base-tails (suc b) (from ts i))
+      (λ u j. dims-any (length ts.text.now) ts.count true u tensor (from ts j)))
+
+  pub tuple-types-is : (b : ℕ) → answer ts (tuple_types (type b)) i ≡ steps (answer ts (type b) i)
+      ((λ j. answer ts (expect comma) j) ∷ (λ j. answer ts (row types (commas right_round) (type b)) j) ∷ [])
+  unfolding tuple_types
+  tuple-types-is b =
+      chain ts i _
+      ((λ j. answer ts (expect comma) j) ∷ (λ j. answer ts (row types (commas right_round) (type b)) j) ∷ [])
+      (type-tails b (from ts i)) (λ u j.
+      chain ts j _ ((λ j. answer ts (row types (commas right_round) (type b)) j) ∷ [])
+      (expect-tails comma (from ts j))
+      (λ c k. mapped-same (length ts.text.now) ts.count (λ vs. tuple_of (a-type u vs)) (row types (commas right_round) (type b) (from ts k))))
 
 -- ---- the ways out of the code, by the terminal s at place i
 
-module _ (text table : List ℕ) (e n i b : ℕ) where
-  pub tuple-types-is : parsed e n (tuple_types (type b) (toks text table n i)) ≡ onwards
-      (onwards (parsed e n (type b (toks text table n i))) (λ j. parsed e n (expect comma (toks text table n j))))
-      (λ j. parsed e n (row types (commas right_round) (type b) (toks text table n j)))
-  unfolding tuple_types
-  tuple-types-is =
-      chain text table e n i _
-      ((λ j. parsed e n (expect comma (toks text table n j))) ∷ (λ j. parsed e n (row types (commas right_round) (type b) (toks text table n j))) ∷ [])
-      (type-tails b (toks text table n i)) (λ u j.
-      chain text table e n j _ ((λ j. parsed e n (row types (commas right_round) (type b) (toks text table n j))) ∷ [])
-      (expect-tails comma (toks text table n j))
-      (λ c k. mapped-same e n (λ vs. tuple_of (a-type u vs)) (row types (commas right_round) (type b) (toks text table n k))))
+module _ (ts : Tokens) (i : ℕ) {s : ℕ} (sees : s ≡ lookahead (from ts i)) where
+  pub word_stands : is_type_word s ≡ true → i < ts.count
+  unfolding is_type_word
+  word_stands h = stands_by ts.text.now ts.table.now ts.count i is_type_word refl sees h
 
-  module _ {s : ℕ} (sees : s ≡ lookahead (toks text table n i)) where
-    pub word_stands : is_type_word s ≡ true → i < n
-    unfolding is_type_word
-    word_stands h = stands_by text table n i is_type_word refl sees h
+  module _ (b : ℕ) where
+    pub at-word : is_type_word s ≡ true → Done (i + 1) ≡ answer ts (base_of b) i
+    at-word h = one_more ts i (word_stands h) ∙ sym (base-is-word (length ts.text.now) ts.count _ b (ap is_type_word (sym sees) ∙ h))
 
-    pub at-word : is_type_word s ≡ true → Done (i + 1) ≡ parsed e n (base_of b (toks text table n i))
-    at-word h = one_more text table n i (word_stands h) ∙ sym (base-is-word e n _ b (ap is_type_word (sym sees) ∙ h))
+    pub at-not : is_type_word s ≡ false → (s ≡ left_round → ⊥) → Fault 9 (place_of (length ts.text.now) (from ts i)) ≡ answer ts (base_of b) i
+    at-not h z = sym (base-is-not (length ts.text.now) ts.count _ b (ap is_type_word (sym sees) ∙ h) (λ w. z (sees ∙ w)))
 
-    pub at-not : {r : Parsed} → is_type_word s ≡ false → (s ≡ left_round → ⊥) → r ≡ Fault 9 (place_of e (toks text table n i))
-        → r ≡ parsed e n (base_of b (toks text table n i))
-    at-not h z p = p ∙ sym (base-is-not e n _ b (ap is_type_word (sym sees) ∙ h) (λ w. z (sees ∙ w)))
+    pub at-full : s ≡ left_round → b ≡ 0 → Fault 10 (place_of (length ts.text.now) (from ts i)) ≡ answer ts (base_of b) i
+    at-full h z = sym (base-is-full (length ts.text.now) ts.count b _ (sym sees ∙ h) z)
 
-    pub at-full : {r : Parsed} → s ≡ left_round → b ≡ 0 → r ≡ Fault 10 (place_of e (toks text table n i)) → r ≡ parsed e n (base_of b (toks text table n i))
-    at-full h z p = p ∙ sym (base-is-full e n b _ (sym sees ∙ h) z)
-
-    pub at-tuple : {r : Parsed} → s ≡ left_round → (b ≡ 0 → ⊥) → r ≡ parsed e n (tuple_types (type (b - 1)) (toks text table n (i + 1)))
-        → r ≡ parsed e n (base_of b (toks text table n i))
+    pub at-tuple : {r : Parsed} → s ≡ left_round → (b ≡ 0 → ⊥) → r ≡ answer ts (tuple_types (type (b - 1))) (i + 1)
+        → r ≡ answer ts (base_of b) i
     at-tuple h z p =
-        p ∙ ap (λ (ts : List Token). parsed e n (tuple_types (type (b - 1)) ts)) (sym (toks-rest text table n i)) ∙ sym (base-is-tuple e n b _ (sym sees ∙ h) z)
+        p ∙ answer-rest ts i (tuple_types (type (b - 1))) ∙ sym (base-is-tuple (length ts.text.now) ts.count b _ (sym sees ∙ h) z)
 
-    pub pairs-stop : i ≤ n → (s ≡ left_square → ⊥) → Done i ≡ parsed e n (dims (ltb 0 b) tensor (toks text table n i))
-    pairs-stop l h = none_more text table n i l ∙ sym (ap (parsed e n) (dims-stop (ltb 0 b) tensor _ (λ z. h (sees ∙ z))))
+    pub pairs-stop : i ≤ ts.count → (s ≡ left_square → ⊥) → Done i ≡ answer ts (dims (ltb 0 b) tensor) i
+    pairs-stop l h =
+        none_more ts i l
+        ∙ sym (ap (outcome ts) (dims-stop (ltb 0 b) tensor _ (λ z. h (sees ∙ z))))
 
-    module _ (h : s ≡ left_square) where
-      pub pairs-full : {r : Parsed} → b ≡ 0 → r ≡ Fault 10 (place_of e (toks text table n i)) → r ≡ parsed e n (dims (ltb 0 b) tensor (toks text table n i))
-      pairs-full z p =
-          p
-          ∙ sym
-          (ap (λ (y : Bool). parsed e n (dims y tensor (toks text table n i))) (le-ltb 0 b (omega arith)) ∙ ap (parsed e n) (dims-full tensor _ (sym sees ∙ h)))
+    pub pairs-full : s ≡ left_square → b ≡ 0 → Fault 10 (place_of (length ts.text.now) (from ts i)) ≡ answer ts (dims (ltb 0 b) tensor) i
+    pairs-full h z =
+        sym
+        (ap (λ (y : Bool). answer ts (dims y tensor) i) (le-ltb 0 b (omega arith))
+        ∙ ap (outcome ts) (dims-full tensor _ (sym sees ∙ h)))
 
-      module _ (z : b ≡ 0 → ⊥) {s' : ℕ} (sees' : s' ≡ lookahead (toks text table n (i + 1))) where
-        may : parsed e n (dims (ltb 0 b) tensor (toks text table n i)) ≡ parsed e n (dims true tensor (toks text table n i))
-        may = ap (λ (y : Bool). parsed e n (dims y tensor (toks text table n i))) (lt-ltb 0 b (omega arith))
-
-        next : s' ≡ lookahead (rest (toks text table n i))
-        next = sees' ∙ ap lookahead (sym (toks-rest text table n i))
-
-        pub pairs-half : {r : Parsed} → (s' ≡ right_square → ⊥) → r ≡ Fault 9 (place_of e (toks text table n (i + 1)))
-            → r ≡ parsed e n (dims (ltb 0 b) tensor (toks text table n i))
-        pairs-half k p =
-            p ∙ ap (λ (ts : List Token). Fault 9 (place_of e ts)) (sym (toks-rest text table n i))
-            ∙ sym (may ∙ ap (parsed e n) (dims-half tensor _ (sym sees ∙ h) (λ w. k (next ∙ w))))
-
-        pub pairs-more : s' ≡ right_square
-            → parsed e n (dims (ltb 0 b) tensor (toks text table n i)) ≡ parsed e n (dims (ltb 0 b) tensor (toks text table n (i + 1 + 1)))
-        pairs-more k =
-            may ∙ (ap (parsed e n) (dims-pair tensor _ (sym sees ∙ h) (sym next ∙ k))
-            ∙ (dims-any e n true (array_of tensor) tensor (rest (rest (toks text table n i)))
-            ∙ (ap (λ (ts : List Token). parsed e n (dims true tensor (rest ts))) (toks-rest text table n i)
-            ∙ (ap (λ (ts : List Token). parsed e n (dims true tensor ts)) (toks-rest text table n (i + 1))
-            ∙ ap (λ (y : Bool). parsed e n (dims y tensor (toks text table n (i + 1 + 1)))) (sym (lt-ltb 0 b (omega arith)))))))
+    -- with a bracket and room for it: the closing bracket, and the pairs after it
+    pub pairs-next : s ≡ left_square → (b ≡ 0 → ⊥)
+        → answer ts (dims (ltb 0 b) tensor) i ≡ onwards (answer ts (expect right_square) (i + 1))
+        (λ j. answer ts (dims (ltb 0 b) tensor) j)
+    pairs-next h z =
+        let l : 0 < b = omega arith in
+        rw (lt-ltb 0 b l)
+        (ap (outcome ts) (dims-next tensor _ (sym sees ∙ h))
+        ∙ sym (answer-rest ts i (λ ws. then (expect right_square ws) (λ c us. dims true (array_of tensor) us)))
+        ∙ chain ts (i + 1) _ ((λ j. answer ts (dims true tensor) j) ∷ [])
+        (expect-tails right_square (from ts (i + 1)))
+        (λ c j. dims-any (length ts.text.now) ts.count true (array_of tensor) tensor (from ts j)))

@@ -52,11 +52,13 @@ mutual
   pub data Spells (m : Leaves) : ℕ → List Token → Value → List Token → Type 0 where
     a-name : {b : ℕ} {t : Token} {ts : List Token} → takes_names m ≡ true → sym_of t ≡ a_name → Spells m b (t ∷ ts) (name t) ts
     a-literal : {b : ℕ} {ts us : List Token} {l : Literal} → takes_literals m ≡ true → IsLiteral ts l us → Spells m b ts (literal l) us
-    an-empty-array : {b : ℕ} {o c : Token} {ts : List Token} → sym_of o ≡ left_square → sym_of c ≡ right_square → Spells m (suc b) (o ∷ c ∷ ts) (array o none) ts
+    an-empty-array : {b : ℕ} {o c : Token} {ts : List Token} → sym_of o ≡ left_square → sym_of c ≡ right_square
+        → Spells m (suc b) (o ∷ c ∷ ts) (array o none) ts
     an-array : {b : ℕ} {o : Token} {ts us : List Token} {vs : Values} → sym_of o ≡ left_square → Items m right_square b ts vs us
         → Spells m (suc b) (o ∷ ts) (array o vs) us
     a-tuple : {b : ℕ} {o c : Token} {ts us ws : List Token} {v : Value} {vs : Values}
-        → sym_of o ≡ left_round → Spells m b ts v (c ∷ us) → sym_of c ≡ comma → Items m right_round b us vs ws → Spells m (suc b) (o ∷ ts) (tuple o (more v vs)) ws
+        → sym_of o ≡ left_round → Spells m b ts v (c ∷ us) → sym_of c ≡ comma → Items m right_round b us vs ws
+        → Spells m (suc b) (o ∷ ts) (tuple o (more v vs)) ws
 
   -- items parted by commas, and the closing terminal
   pub data Items (m : Leaves) : ℕ → ℕ → List Token → Values → List Token → Type 0 where

@@ -1,5 +1,5 @@
 -- What only the contracts of inner functions cite.
-use Rattle.std.specs.Prelude.{Bool, true, cond, ◌&&◌, ◌||◌, List, [], ◌∷◌, ℕ, zero, suc, ◌+◌, ◌-◌, ◌*◌, eqb, leb, length}
+use Rattle.std.specs.Prelude.{Bool, true, cond, ◌&&◌, ◌||◌, List, [], ◌∷◌, ℕ, zero, suc, eqb}
 use Rattle.lexis.specs.Sizes.{max_brackets}
 use Rattle.lexis.specs.Lexer.{Token}
 use Rattle.lexis.specs.Symbol.{sym_of, is_literal, left_round, right_round, left_square, left_curly, right_curly, equal, semicolon, arrow, minus, a_name}
@@ -9,9 +9,6 @@ use Rattle.syntax.specs.Tree.{Ty, Param, Result, Arg, Call}
 use Rattle.syntax.specs.Grammar.{Leaves, names, literals, both, takes_names, takes_literals}
 use Rattle.syntax.specs.Parser.{Reader, then, expect, begins, rest, plain, commas, closed, row, tuple_types, base_step, type, param, typed_name, argument, call}
 use Rattle.syntax.specs.Parser.Parse.{ok, bad}
-use Rattle.syntax.specs.Table.{toks, place_of}
-use Rattle.syntax.specs.declared.Parsed.{Parsed}
-use Rattle.syntax.specs.declared.Parsed.TheVariants.{Done, Fault}
 use Rattle.syntax.specs.declared.value.Leaves as L
 use Rattle.syntax.specs.declared.value.Leaves.TheVariants.{Names, Literals, Both}
 use Rattle.syntax.specs.declared.list.Item as I
@@ -27,23 +24,6 @@ the_end = 268
 abbrev pub lookahead : List Token → ℕ
 lookahead [] = the_end
 lookahead (t ∷ ts) = sym_of t
-
--- ---- one reader after another
-
--- on from the place that an answer has reached
-abbrev pub onwards : Parsed → (ℕ → Parsed) → Parsed
-onwards (Done j) k = k j
-onwards (Fault c q) k = Fault c q
-
--- ---- answers as numbers
-
--- the answer over n tokens that the number r stands for: a place, which is at most n; a syntax fault, n + 1 more than its place; a bracket too many, twice
--- n + 1 more than its place
-unfoldable pub reached : List ℕ → List ℕ → ℕ → ℕ → Parsed
-reached text table n r =
-    cond (leb r n) (Done r)
-    (cond (leb r (n + 1 + n)) (Fault Code.syntax (place_of (length text) (toks text table n (r - (n + 1)))))
-    (Fault Code.bracket (place_of (length text) (toks text table n (r - 2 * (n + 1))))))
 
 -- ---- values
 
@@ -69,7 +49,8 @@ opens s = eqb s left_square || eqb s left_round
 
 -- the terminal s is a type's name
 unfoldable pub is_type_word : ℕ → Bool
-is_type_word s = cond (eqb s tensor_word) true (cond (eqb s extent_word) true (cond (eqb s scalar_word) true (cond (eqb s logical_word) true (eqb s string_word))))
+is_type_word s =
+    cond (eqb s tensor_word) true (cond (eqb s extent_word) true (cond (eqb s scalar_word) true (cond (eqb s logical_word) true (eqb s string_word))))
 
 -- a type without its pairs of square brackets
 unfoldable pub base_of : ℕ → Reader Ty

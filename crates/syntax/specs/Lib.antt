@@ -9,4 +9,5 @@ pub mod Fault
 pub mod Read
 -- Only the contracts of the inner functions cite these: tokens in a table, and parts of what is read.
 pub mod Table
+pub mod Tokens
 pub mod Inner

@@ -5,36 +5,58 @@ mod graph;
 pub mod list;
 mod operations;
 pub mod symbol;
+pub mod tokens;
 pub mod types;
 pub mod value;
 
 ghost use Rattle.std.specs.Prelude.{◌≡◌, true, ◌≤◌, length};
-ghost use Rattle.lexis.specs.Bytes.{class_table};
+ghost use Rattle.lexis.specs.Answer.{counted_told};
 ghost use Rattle.lexis.specs.Lexer.{lex};
+ghost use Rattle.lexis.specs.Refusal.{refusal_number};
 ghost use Rattle.lexis.specs.Sizes.{max_text, work_words};
 ghost use Rattle.lexis.specs.Work.{Recorded, Room};
-ghost use Rattle.syntax.specs.Table.{toks, Holds};
+ghost use Rattle.syntax.specs.Table.{Holds};
+ghost use Rattle.syntax.specs.Tokens.{code_of, from, place_in, told};
 ghost use Rattle.syntax.specs.Read.{syntax_of, read_of};
 
 use graph::document_syntax;
-use lexis::{Counted, lex_into};
+use lexis::lex_into;
+use lexis::refusal::{Fault, Refusal};
 use operations::list_syntax;
+use tokens::Tokens;
 
-// What a reader answers: the place after what it read, or a fault.
-#[derive(Clone, Copy)]
-pub enum Parsed {
-    Done(usize),
-    Fault { code: u32, at: usize },
+// Why a text is no longer read, and the place of the token: no valid text has this token here; a bracket more than may be open.
+#[derive(Clone, Copy, PartialEq, Eq)]
+pub enum ParseError {
+    Unexpected(usize),
+    TooDeep(usize),
 }
 
-impl Parsed {
-    // The codes: no valid text has this token here; a bracket more than may be open.
-    pub const SYNTAX: u32 = 9;
+impl ParseError {
+    // Why `read` refuses the text.
+    fn refusal(self) -> Refusal
+        ensures { refusal_number result ≡ code_of self }
+    {
+        match self {
+            ParseError::Unexpected(_) => Refusal::Syntax,
+            ParseError::TooDeep(_) => Refusal::Bracket,
+        }
+    }
 
-    pub const BRACKET: u32 = 10;
+    // The place of its token.
+    fn place(self) -> usize
+        ensures { result ≡ place_in self }
+    {
+        match self {
+            ParseError::Unexpected(i) | ParseError::TooDeep(i) => i,
+        }
+    }
 }
 
-// What a text is read as.
+// What a reader answers: the place of the token after what it read, or an error.
+pub type Parsed = Result<usize, ParseError>;
+
+// What a text is read as. An enum and no closure: the contract of `read` names it.
 #[derive(Clone, Copy)]
 pub enum Syntax {
     List,
@@ -42,37 +64,35 @@ pub enum Syntax {
 }
 
 // The syntax of n tokens.
-fn syntax_of(text: &[u8], table: &[u32], n: usize, which: Syntax) -> Parsed
-    requires { Holds text.now table.now n }
-    ensures { result ≡ syntax_of which (length text.now) n (toks text.now table.now n 0) }
+fn syntax_of(tokens: &Tokens<'_>, which: Syntax) -> Parsed
+    ensures { told tokens.now result ≡ syntax_of which (length tokens.now.text.now) tokens.now.count (from tokens.now 0) }
 {
     match which {
-        Syntax::List => list_syntax(text, table, n),
-        Syntax::Document => document_syntax(text, table, n),
+        Syntax::List => list_syntax(tokens),
+        Syntax::Document => document_syntax(tokens),
     }
 }
 
-// Reads a text of at most 16384 bytes: its tokens, written in front of a work area, their terminals behind,
-// and their syntax. Answers how many tokens there are, or
-// the first fault; on a fault of the bytes the work area holds anything.
-pub fn read(classes: &[u8; 256], text: &[u8], work: &mut [u32], which: Syntax) -> Counted
-    requires classes_value { classes.now ≡ class_table }
+// Reads a text of at most 16384 bytes: its tokens, written in front of a work area, their terminals behind, and their syntax. Answers how many
+// tokens there are, or the first fault; on a fault of the bytes the work area holds anything.
+pub fn read(text: &[u8], work: &mut [u32], which: Syntax) -> Result<u32, Fault>
     requires text_len_bound { length text.now ≤ max_text }
     requires work_words_in_bounds { work_words ≤ length work.old }
-    ensures value { result ≡ read_of which text.now }
+    ensures value { counted_told result ≡ read_of which text.now }
     ensures recorded { Recorded true (lex text.now) work.old work.new }
-    ensures room { Room result (length work.old) }
+    ensures room { Room (counted_told result) (length work.old) }
 {
-    let found = lex_into(classes, text, &mut *work, true);
-    let Counted::Tokens(n) = found else {
-        return found;
+    let n = lex_into(text, &mut *work, true)?;
+    let tokens = Tokens {
+        text: text,
+        table: work,
+        count: n as usize,
     };
-    let answer = syntax_of(text, work, n as usize, which);
-    let Parsed::Fault { code, at } = answer else {
-        return found;
-    };
-    Counted::Fault {
-        code: code,
-        at: at as u32,
+    match syntax_of(&tokens, which) {
+        Ok(_) => Ok(n),
+        Err(error) => Err(Fault {
+            refusal: error.refusal(),
+            at: tokens.place_at(error.place()) as u32,
+        }),
     }
 }

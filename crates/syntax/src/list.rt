@@ -1,19 +1,19 @@
 // Lists in round brackets: names, parameters, results and arguments.
-ghost use Rattle.std.specs.Prelude.{◌≡◌, ◌≤◌, length};
+ghost use Rattle.std.specs.Prelude.{◌≡◌, ◌≤◌};
 ghost use Rattle.lexis.specs.Sizes.{max_brackets};
 ghost use Rattle.lexis.specs.Symbol.{right_round};
 ghost use Rattle.syntax.specs.Parser.{default, typed_name, param, argument, plain, commas, row};
-ghost use Rattle.syntax.specs.Table.{toks, Holds, parsed};
-ghost use Rattle.syntax.specs.Inner.{is_label, reader, onwards};
+ghost use Rattle.syntax.specs.Tokens.{answer, from, told};
+ghost use Rattle.syntax.specs.Inner.{is_label, reader};
 
 use crate::Parsed;
-use crate::symbol::{expect, symbol_at};
+use crate::tokens::Tokens;
 use crate::types::type_at;
-use crate::value::{Leaves, value};
+use crate::value::Leaves;
 use lexis::limits::Limits;
 use lexis::symbol::Symbol;
 
-// What a list is of.
+// What a list is of. An enum and no closure: the contract of a reader names what it reads.
 #[derive(Clone, Copy)]
 pub enum Item {
     Name,
@@ -23,106 +23,75 @@ pub enum Item {
 }
 
 // The default of a parameter, where there is one.
-fn default(text: &[u8], table: &[u32], n: usize, at: usize) -> Parsed
-    requires holds { Holds text.now table.now n }
-    requires at_le_n { at ≤ n }
-    ensures { result ≡ parsed (length text.now) n (default max_brackets (toks text.now table.now n at)) }
+fn default(tokens: &Tokens<'_>, at: usize) -> Parsed
+    requires { at ≤ tokens.now.count }
+    ensures { told tokens.now result ≡ answer tokens.now (default max_brackets) at }
 {
-    if symbol_at(text, table, n, at) != Symbol::EQUAL {
-        return Parsed::Done(at);
+    if tokens.symbol_at(at) != Symbol::EQUAL {
+        return Ok(at);
     }
-    value(text, table, n, at + 1, Leaves::Literals, Limits::BRACKETS)
+    tokens.value(at + 1, Leaves::Literals, Limits::BRACKETS)
 }
 
 // A name, a colon and a type.
-fn result(text: &[u8], table: &[u32], n: usize, at: usize) -> Parsed
-    requires { Holds text.now table.now n }
-    ensures { result ≡ parsed (length text.now) n (typed_name max_brackets (toks text.now table.now n at)) }
+fn result(tokens: &Tokens<'_>, at: usize) -> Parsed
+    ensures { told tokens.now result ≡ answer tokens.now (typed_name max_brackets) at }
 {
-    let name = expect(text, table, n, at, Symbol::NAME);
-    let colon = name.then_expect(text, table, n, Symbol::COLON);
-    let Parsed::Done(next) = colon else {
-        return colon;
-    };
-    type_at(text, table, n, next, Limits::BRACKETS)
+    let colon = tokens.expect(at, Symbol::NAME)?;
+    let ty = tokens.expect(colon, Symbol::COLON)?;
+    type_at(tokens, ty, Limits::BRACKETS)
 }
 
 // A result with a default, or without one.
-fn parameter(text: &[u8], table: &[u32], n: usize, at: usize) -> Parsed
-    requires { Holds text.now table.now n }
-    ensures { result ≡ parsed (length text.now) n (param max_brackets (toks text.now table.now n at)) }
+fn parameter(tokens: &Tokens<'_>, at: usize) -> Parsed
+    ensures { told tokens.now result ≡ answer tokens.now (param max_brackets) at }
 {
-    let typed = result(text, table, n, at);
-    let Parsed::Done(next) = typed else {
-        return typed;
-    };
-    default(text, table, n, next)
-}
-
-// Whether a name and an equals sign stand at place `at`.
-pub fn is_label(text: &[u8], table: &[u32], n: usize, at: usize) -> bool
-    requires { Holds text.now table.now n }
-    ensures { result ≡ is_label (toks text.now table.now n at) }
-{
-    if symbol_at(text, table, n, at) != Symbol::NAME {
-        return false;
-    }
-    symbol_at(text, table, n, at + 1) == Symbol::EQUAL
+    let next = result(tokens, at)?;
+    default(tokens, next)
 }
 
 // A value, or a name, an equals sign and a value.
-fn argument(text: &[u8], table: &[u32], n: usize, at: usize) -> Parsed
-    requires { Holds text.now table.now n }
-    ensures { result ≡ parsed (length text.now) n (argument max_brackets (toks text.now table.now n at)) }
+fn argument(tokens: &Tokens<'_>, at: usize) -> Parsed
+    ensures { told tokens.now result ≡ answer tokens.now (argument max_brackets) at }
 {
-    if is_label(text, table, n, at) {
-        return value(text, table, n, at + 2, Leaves::Both, Limits::BRACKETS);
+    if tokens.is_label(at) {
+        return tokens.value(at + 2, Leaves::Both, Limits::BRACKETS);
     }
-    value(text, table, n, at, Leaves::Both, Limits::BRACKETS)
+    tokens.value(at, Leaves::Both, Limits::BRACKETS)
 }
 
-// One item of a list.
-pub fn one(text: &[u8], table: &[u32], n: usize, at: usize, which: Item) -> Parsed
-    requires { Holds text.now table.now n }
-    ensures { result ≡ parsed (length text.now) n (reader which (toks text.now table.now n at)) }
+// One item of a list. An enum and no closure: the clause of `list` names the reader by its item; with a closure each call would have to state it.
+pub fn one(tokens: &Tokens<'_>, at: usize, which: Item) -> Parsed
+    ensures { told tokens.now result ≡ answer tokens.now (reader which) at }
 {
     match which {
-        Item::Name => expect(text, table, n, at, Symbol::NAME),
-        Item::Parameter => parameter(text, table, n, at),
-        Item::Result => result(text, table, n, at),
-        Item::Argument => argument(text, table, n, at),
+        Item::Name => tokens.expect(at, Symbol::NAME),
+        Item::Parameter => parameter(tokens, at),
+        Item::Result => result(tokens, at),
+        Item::Argument => argument(tokens, at),
     }
 }
 
-// Items parted by commas, at least one, and the closing bracket.
-pub fn list(text: &[u8], table: &[u32], n: usize, at: usize, which: Item) -> Parsed
-    requires { Holds text.now table.now n }
-    ensures { result ≡ parsed (length text.now) n
-        (row plain (commas right_round) (reader which) (toks text.now table.now n at)) }
-{
-    let mut i = at;
-    loop {
-        let item = one(text, table, n, i, which);
-        let Parsed::Done(next) = item else {
-            return item;
-        };
-        if symbol_at(text, table, n, next) != Symbol::COMMA {
-            return expect(text, table, n, next, Symbol::RIGHT_ROUND);
-        }
-        i = next + 1;
-    }
-}
-
-impl Parsed {
-    // And then a list.
-    pub(crate) fn then_list(self, text: &[u8], table: &[u32], n: usize, which: Item) -> Parsed
-        requires { Holds text.now table.now n }
-        ensures { result ≡ onwards self
-            (λ j. parsed (length text.now) n (row plain (commas right_round) (reader which) (toks text.now table.now n j))) }
+impl Tokens<'_> {
+    // Whether a name and an equals sign stand at place `at`.
+    pub fn is_label(&self, at: usize) -> bool
+        ensures { result ≡ is_label (from self.now at) }
     {
-        match self {
-            Parsed::Done(at) => list(text, table, n, at, which),
-            Parsed::Fault { code, at } => Parsed::Fault { code: code, at: at },
+        self.symbol_at(at) == Symbol::NAME && self.symbol_at(at + 1) == Symbol::EQUAL
+    }
+
+    // Items parted by commas, at least one, and the closing bracket.
+    pub fn list(&self, at: usize, which: Item) -> Parsed
+        ensures { told self.now result ≡ answer self.now (row plain (commas right_round) (reader which)) at }
+    {
+        // No `for`: the tokens say where the list ends.
+        let mut i = at;
+        loop {
+            let next = one(self, i, which)?;
+            if self.symbol_at(next) != Symbol::COMMA {
+                return self.expect(next, Symbol::RIGHT_ROUND);
+            }
+            i = next + 1;
         }
     }
 }

@@ -1,40 +1,35 @@
-// Operation lists: headers up to the end.
-ghost use Rattle.std.specs.Prelude.{◌≡◌, length};
+// Operation lists: headers, one after another.
+ghost use Rattle.std.specs.Prelude.{◌≡◌};
 ghost use Rattle.lexis.specs.Sizes.{max_brackets};
 ghost use Rattle.syntax.specs.Parser.{header, parse_list};
-ghost use Rattle.syntax.specs.Table.{toks, Holds, parsed};
+ghost use Rattle.syntax.specs.Tokens.{answer, told};
 
 use crate::Parsed;
 use crate::list::Item;
-use crate::symbol::expect;
+use crate::tokens::Tokens;
 use lexis::symbol::Symbol;
 
-// The word fragment, a name, parameters, an arrow and results.
-fn header(text: &[u8], table: &[u32], n: usize, at: usize) -> Parsed
-    requires { Holds text.now table.now n }
-    ensures { result ≡ parsed (length text.now) n (header max_brackets (toks text.now table.now n at)) }
+// A header: the operation's name, its parameters and its results.
+fn header(tokens: &Tokens<'_>, at: usize) -> Parsed
+    ensures { told tokens.now result ≡ answer tokens.now (header max_brackets) at }
 {
-    let word = expect(text, table, n, at, Symbol::FRAGMENT);
-    let name = word.then_expect(text, table, n, Symbol::NAME);
-    let bracket = name.then_expect(text, table, n, Symbol::LEFT_ROUND);
-    let parameters = bracket.then_list(text, table, n, Item::Parameter);
-    let arrow = parameters.then_expect(text, table, n, Symbol::ARROW);
-    let second = arrow.then_expect(text, table, n, Symbol::LEFT_ROUND);
-    second.then_list(text, table, n, Item::Result)
+    let name = tokens.expect(at, Symbol::FRAGMENT)?;
+    let bracket = tokens.expect(name, Symbol::NAME)?;
+    let parameters = tokens.expect(bracket, Symbol::LEFT_ROUND)?;
+    let arrow = tokens.list(parameters, Item::Parameter)?;
+    let second = tokens.expect(arrow, Symbol::ARROW)?;
+    let results = tokens.expect(second, Symbol::LEFT_ROUND)?;
+    tokens.list(results, Item::Result)
 }
 
 // The syntax of an operation list.
-pub fn list_syntax(text: &[u8], table: &[u32], n: usize) -> Parsed
-    requires { Holds text.now table.now n }
-    ensures { result ≡ parsed (length text.now) n (parse_list (toks text.now table.now n 0)) }
+pub fn list_syntax(tokens: &Tokens<'_>) -> Parsed
+    ensures { told tokens.now result ≡ answer tokens.now parse_list 0 }
 {
+    // No `for`: each header says where the next one begins.
     let mut i = 0;
-    while i < n {
-        let one = header(text, table, n, i);
-        let Parsed::Done(next) = one else {
-            return one;
-        };
-        i = next;
+    while i < tokens.count {
+        i = header(tokens, i)?;
     }
-    Parsed::Done(n)
+    Ok(tokens.count)
 }

@@ -21,6 +21,8 @@ use Rattle.syntax.specs.Tree.Arg.{positional, named}
 use Rattle.syntax.specs.Grammar.{both}
 use Rattle.syntax.specs.Parser.{rest, row, plain, commas, value, argument}
 use Rattle.syntax.specs.Parser.Parse.{ok}
+use Rattle.syntax.specs.Tokens.{from}
+use Rattle.syntax.specs.declared.tokens.Tokens.{Tokens}
 use Rattle.syntax.specs.Table.{token_at, toks}
 use Rattle.syntax.specs.Inner.{lookahead, is_label}
 use Rattle.syntax.proofs.Table.{toks-rest}
@@ -40,6 +42,8 @@ use Rattle.documents.proofs.ArgumentCalls.{with-label, without-label}
 use Rattle.writing.specs.Plan.{value_for}
 use Rattle.writing.specs.declared.argument.Walk.{Walk}
 use Rattle.writing.specs.declared.argument.Aim.{Aim}
+use Rattle.documents.specs.Callees.{Takes}
+use Rattle.documents.specs.declared.callee.Callee.{Callee}
 use Rattle.writing.specs.Writing.{argument_for, ValueAt, Slotted, slot_set, AimsAt, Aims, BindsAll}
 use Rattle.writing.specs.Writing.ValueAt.{no_value, a-value}
 
@@ -213,53 +217,53 @@ module _ (text table : List ℕ) (n : ℕ) (xs : List Arg) where
 
 -- ---- the walk over the arguments
 
-module _ (dtext dtable : List ℕ) (dn : ℕ) (ltext ltable words : List ℕ) (ln : ℕ) (o : Operation) (args : ℕ) (before : List ℕ) where
+module _ (doc : Tokens) (callee : Callee) (args : ℕ) (before : List ℕ) where
   -- the slots with what an argument binds
   abbrev pub bound : List ℕ → Aim → List ℕ
-  bound slots a = slot_set slots o.count a.number a.value
+  bound slots a = slot_set slots callee.operation.count a.number a.value
 
   abbrev Row : ℕ → List Arg → List Token → Type 0
-  Row i xs us = row plain (commas right_round) (argument max_brackets) (toks dtext dtable dn i) ≡ ok xs us
+  Row i xs us = row plain (commas right_round) (argument max_brackets) (from doc i) ≡ ok xs us
 
   -- the slots hold what the arguments passed bind; those left are read from the walk's place on
   pub record Passed (ps : List Param) (xs : List Arg) (us : List Token) (slots : List ℕ) (w : Walk) : Type 0 where
     pub left : List Arg
     pub reads : Row w.at left us
-    pub filled : (k : ℕ) (p : Param) → Nth k p ps → Filled dtext dtable dn xs slots w.index left k p
+    pub filled : (k : ℕ) (p : Param) → Nth k p ps → Filled doc.text.now doc.table.now doc.count xs slots w.index left k p
 
   abbrev pub Passes : List ℕ → Walk → Type 0
   Passes slots w =
-      (ps : List Param) (xs : List Arg) (us : List Token) → Declares ltext ltable words ln o ps → Row args xs us → ((k : ℕ) → get_or before k 0 ≡ 0)
+      (ps : List Param) (xs : List Arg) (us : List Token) → Takes callee ps → Row args xs us → ((k : ℕ) → get_or before k 0 ≡ 0)
       → Passed ps xs us slots w
 
   pub passes_none : (guess : ℕ) → Passes before (record { at = args; index = 0; guess = guess })
   passes_none guess ps xs us d h z = record {
     left = xs;
     reads = h;
-    filled = λ k p m. record { held = nothing; at = subst (λ (i : ℕ). ValueAt dtext dtable dn i nothing) (sym (z k)) no_value; same = refl };
+    filled = λ k p m. record { held = nothing; at = subst (λ (i : ℕ). ValueAt doc.text.now doc.table.now doc.count i nothing) (sym (z k)) no_value; same = refl };
   }
 
-  module _ (slots : List ℕ) (w : Walk) (walk : Passes slots w) (room : o.count ≤ length slots) {a : Aim}
-      (aims : Aims dtext dtable dn ltext ltable words ln o w a)
-      (positive : 0 < a.value) (end : ℕ) {sees : ℕ} (ends : EndsAt dtext dtable dn a.value end) (looks : sees ≡ lookahead (toks dtext dtable dn end)) where
+  module _ (slots : List ℕ) (w : Walk) (walk : Passes slots w) (room : callee.operation.count ≤ length slots) {a : Aim}
+      (aims : Aims doc callee w a)
+      (positive : 0 < a.value) (end : ℕ) {sees : ℕ} (ends : EndsAt doc.text.now doc.table.now doc.count a.value end) (looks : sees ≡ lookahead (from doc end)) where
     -- the arguments end
-    pub passes-ended : (sees ≡ comma → ⊥) → BindsAll dtext dtable dn args ltext ltable words ln o before (bound slots a) end
+    pub passes-ended : (sees ≡ comma → ⊥) → BindsAll doc args callee before (bound slots a) end
     unfolding argument_for
     passes-ended stop ps xs us d h z =
         let v = walk ps xs us d h z in
-        go v refl (row_ok right_round (argument max_brackets) (argument-shrinks max_brackets) (toks dtext dtable dn w.at) v.reads)
+        go v refl (row_ok right_round (argument max_brackets) (argument-shrinks max_brackets) (from doc w.at) v.reads)
       where
-        go : (v : Passed ps xs us slots w) {ys : List Arg} → v.left ≡ ys → Rowed right_round (argument max_brackets) (toks dtext dtable dn w.at) us ys
-            → Slotted dtext dtable dn ps xs (bound slots a) × (us ≡ toks dtext dtable dn (end + 1)) × (end < dn)
+        go : (v : Passed ps xs us slots w) {ys : List Arg} → v.left ≡ ys → Rowed right_round (argument max_brackets) (from doc w.at) us ys
+            → Slotted doc.text.now doc.table.now doc.count ps xs (bound slots a) × (us ≡ from doc (end + 1)) × (end < doc.count)
         go v e (last {a = x} {c = c} k q) =
             let t = aims ps x (c ∷ us) d k in
             let f = ends t.tree (c ∷ us) t.reads in (
               λ i p m.
-                  let g = filled_more dtext dtable dn xs t o.count room (omega (arith, d.count)) positive i p m
-                  (subst (λ (ys : List Arg). Filled dtext dtable dn xs slots w.index ys i p) e (v.filled i p m)) in
-                  subst (ValueAt dtext dtable dn (get_or (bound slots a) i 0)) (sym (g.same ∙ or-none g.held)) g.at,
-              ap rest f ∙ toks-rest dtext dtable dn end,
-              token-there dtext dtable dn end (sym f),
+                  let g = filled_more doc.text.now doc.table.now doc.count xs t callee.operation.count room (omega (arith, d.count)) positive i p m
+                  (subst (λ (ys : List Arg). Filled doc.text.now doc.table.now doc.count xs slots w.index ys i p) e (v.filled i p m)) in
+                  subst (ValueAt doc.text.now doc.table.now doc.count (get_or (bound slots a) i 0)) (sym (g.same ∙ or-none g.held)) g.at,
+              ap rest f ∙ toks-rest doc.text.now doc.table.now doc.count end,
+              token-there doc.text.now doc.table.now doc.count end (sym f),
             )
         go v e (next {a = x} {c = c} {us = vs} k q m) =
             let t = aims ps x (c ∷ vs) d k in
@@ -270,9 +274,9 @@ module _ (dtext dtable : List ℕ) (dn : ℕ) (ltext ltable words : List ℕ) (l
     pub passes_on : sees ≡ comma → (guess : ℕ) → Passes (bound slots a) (record { at = end + 1; index = w.index + 1; guess = guess })
     passes_on goes guess ps xs us d h z =
         let v = walk ps xs us d h z in
-        go v refl (row_ok right_round (argument max_brackets) (argument-shrinks max_brackets) (toks dtext dtable dn w.at) v.reads)
+        go v refl (row_ok right_round (argument max_brackets) (argument-shrinks max_brackets) (from doc w.at) v.reads)
       where
-        go : (v : Passed ps xs us slots w) {ys : List Arg} → v.left ≡ ys → Rowed right_round (argument max_brackets) (toks dtext dtable dn w.at) us ys
+        go : (v : Passed ps xs us slots w) {ys : List Arg} → v.left ≡ ys → Rowed right_round (argument max_brackets) (from doc w.at) us ys
             → Passed ps xs us (bound slots a) (record { at = end + 1; index = w.index + 1; guess = guess })
         go v e (last {a = x} {c = c} k q) =
             let t = aims ps x (c ∷ us) d k in
@@ -281,13 +285,13 @@ module _ (dtext dtable : List ℕ) (dn : ℕ) (ltext ltable words : List ℕ) (l
             absurd (omega arith)
         go v e (next {a = x} {c = c} {us = vs} {xs = ys} k q m) =
             let t = aims ps x (c ∷ vs) d k in
-            let f : vs ≡ toks dtext dtable dn (end + 1) = ap rest (ends t.tree (c ∷ vs) t.reads) ∙ toks-rest dtext dtable dn end in
+            let f : vs ≡ from doc (end + 1) = ap rest (ends t.tree (c ∷ vs) t.reads) ∙ toks-rest doc.text.now doc.table.now doc.count end in
             record {
               left = ys;
               reads = rw f at m;
               filled = λ i p n.
-                  let g = filled_more dtext dtable dn xs t o.count room (omega (arith, d.count)) positive i p n
-                  (subst (λ (zs : List Arg). Filled dtext dtable dn xs slots w.index zs i p) e (v.filled i p n)) in
+                  let g = filled_more doc.text.now doc.table.now doc.count xs t callee.operation.count room (omega (arith, d.count)) positive i p n
+                  (subst (λ (zs : List Arg). Filled doc.text.now doc.table.now doc.count xs slots w.index zs i p) e (v.filled i p n)) in
                   rw (add-one w.index) g;
             }
 

@@ -26,8 +26,11 @@ use Rattle.documents.specs.Tallies.Nth.{nth-first, after}
 use Rattle.documents.proofs.DirectoryEntries.{parameter-at}
 use Rattle.documents.proofs.Items.{clash}
 use Rattle.writing.specs.Plan.{values_for}
-use Rattle.writing.specs.declared.place.Place.{Place}
+use Rattle.writing.specs.declared.writer.Writer.{Writer}
+use Rattle.syntax.specs.declared.tokens.Tokens.{Tokens}
 use Rattle.writing.specs.Layout.{mark, pieces, argument_pieces, more_arguments_pieces, arguments_pieces}
+use Rattle.documents.specs.Callees.{Takes}
+use Rattle.documents.specs.declared.callee.Callee.{Callee}
 use Rattle.writing.specs.Writing.{Puts, PutsWord, argument_for, Slotted, PutsArgument, PutsSlots}
 use Rattle.writing.proofs.Putting.{puts_then, puts_none}
 use Rattle.writing.proofs.Arguments.{filled_from, slots_filled, values-more}
@@ -35,9 +38,9 @@ use Rattle.writing.proofs.Arguments.{filled_from, slots_filled, values-more}
 -- ---- one argument
 
 -- the parameter's name, `=`, and the value
-pub argument-put : (text table words : List ℕ) (n j : ℕ) {q : Param} {i : ℕ} (w : Val) {a b c d : List ℕ} {s t u v : Place}
+pub argument-put : (text table words : List ℕ) (n j : ℕ) {q : Param} {i : ℕ} (w : Val) {a b c d : Writer}
     → ParameterAt text table words n j q → i ≡ parameter_word words j 0
-    → PutsWord (token_at text table i).bytes a b s t → PutsWord (ascii "=") b c t u → Puts (pieces w) c d u v → Puts (argument_pieces q w) a d s v
+    → PutsWord (token_at text table i).bytes a b → PutsWord (ascii "=") b c → Puts (pieces w) c d → Puts (argument_pieces q w) a d
 argument-put text table words n j {q} {i} w p e x y z =
     let name : token_at text table i ≡ q.name = ap (token_at text table) e ∙ p.name in
     puts_then (rw name at (x Kind.name)) (puts_then (y Kind.syntactic) z)
@@ -57,29 +60,29 @@ default-read {text} {table} {n} {d} {v = v} (a-default {v = x} {us = us} l h) e 
 
 -- a comma, and the arguments of the parameters that are left
 comma-then : (xs : List Arg) (k : ℕ) (qs : List Param) → 0 < length qs → (vs : List Val) → values_for (filled_from xs k qs) ≡ some vs
-    → {a b c : List ℕ} {s t u : Place} → Puts (λ r. mark (ascii ",") ∷ r) a b s t → Puts (arguments_pieces qs vs) b c t u
-    → Puts (more_arguments_pieces qs vs) a c s u
+    → {a b c : Writer} → Puts (λ r. mark (ascii ",") ∷ r) a b → Puts (arguments_pieces qs vs) b c
+    → Puts (more_arguments_pieces qs vs) a c
 unfolding arguments_pieces more_arguments_pieces
 comma-then xs k [] e vs h x y = absurd (omega arith)
 comma-then xs k (q ∷ qs) e [] h x y = let w = (values-more xs k q qs h).whole in clash cc
 comma-then xs k (q ∷ qs) e (v ∷ vs) h x y = puts_then x y
 
-module _ (dtext dtable : List ℕ) (dn : ℕ) (places ltext ltable words : List ℕ) (ln : ℕ) (o : Operation) (before : List ℕ) (s : Place) where
+module _ (doc : Tokens) (places : List ℕ) (callee : Callee) (before : Writer) where
   -- the parameters left, the first of them being number i; where their arguments are put from here on, all are put
-  pub record Left (ps : List Param) (xs : List Arg) (vs : List Val) (out : List ℕ) (at : Place) (i : ℕ) : Type 0 where
+  pub record Left (ps : List Param) (xs : List Arg) (vs : List Val) (out : Writer) (i : ℕ) : Type 0 where
     pub left : List Param
     pub values : List Val
     pub size : i + length left ≡ length ps
     pub nth : (k : ℕ) (p : Param) → Nth k p left → Nth (i + k) p ps
     pub valued : values_for (filled_from xs i left) ≡ some values
-    pub whole : (a : List ℕ) (t : Place) → Puts (arguments_pieces left values) out a at t → Puts (arguments_pieces ps vs) before a s t
+    pub whole : (a : Writer) → Puts (arguments_pieces left values) out a → Puts (arguments_pieces ps vs) before a
 
-  abbrev pub PutsLeft : List ℕ → Place → ℕ → Type 0
-  PutsLeft out at i =
-      (ps : List Param) (xs : List Arg) (vs : List Val) → Declares ltext ltable words ln o ps → Slotted dtext dtable dn ps xs places → misplaced ps xs ≡ []
-      → values_for (slots ps xs) ≡ some vs → Left ps xs vs out at i
+  abbrev pub PutsLeft : Writer → ℕ → Type 0
+  PutsLeft out i =
+      (ps : List Param) (xs : List Arg) (vs : List Val) → Takes callee ps → Slotted doc.text.now doc.table.now doc.count ps xs places → misplaced ps xs ≡ []
+      → values_for (slots ps xs) ≡ some vs → Left ps xs vs out i
 
-  pub puts-start : PutsLeft before s 0
+  pub puts-start : PutsLeft before 0
   puts-start ps xs vs d f m v =
       record {
         left = ps;
@@ -87,17 +90,17 @@ module _ (dtext dtable : List ℕ) (dn : ℕ) (places ltext ltable words : List 
         size = zero-add (length ps);
         nth = λ k p n. subst (λ (i : ℕ). Nth i p ps) (sym (zero-add k)) n;
         valued = ap values_for (sym (slots_filled ps xs m)) ∙ v;
-        whole = λ a t q. q;
+        whole = λ a q. q;
       }
 
   -- an operation of no parameters
-  pub puts-nothing : o.count ≡ 0 → PutsSlots dtext dtable dn places ltext ltable words ln o before before s s
+  pub puts-nothing : callee.operation.count ≡ 0 → PutsSlots doc places callee before before
   unfolding arguments_pieces
   puts-nothing e [] xs vs d f m v = puts_none
   puts-nothing e (p ∷ ps) xs vs d f m v = absurd (omega (arith, d.count))
 
-  module _ (out : List ℕ) (at : Place) (i : ℕ) (walk : PutsLeft out at i) (inside : i < o.count) {b : List ℕ} {t : Place}
-      (one : PutsArgument dtext dtable dn (get_or places i 0) ltext ltable words ln (o.first + i) out b at t) where
+  module _ (out : Writer) (i : ℕ) (walk : PutsLeft out i) (inside : i < callee.operation.count) {b : Writer}
+      (one : PutsArgument doc (get_or places i 0) callee i out b) where
     -- the first parameter that is left has its argument put
     record Next (ps : List Param) (xs : List Arg) (vs : List Val) : Type 0 where
       first : Param
@@ -107,11 +110,11 @@ module _ (dtext dtable : List ℕ) (dn : ℕ) (places ltext ltable words : List 
       size : i + suc (length others) ≡ length ps
       nth : (k : ℕ) (p : Param) → Nth k p others → Nth (i + suc k) p ps
       valued : values_for (filled_from xs (suc i) others) ≡ some values
-      put : Puts (argument_pieces first value) out b at t
-      whole : (a : List ℕ) (u : Place) → Puts (arguments_pieces (first ∷ others) (value ∷ values)) out a at u → Puts (arguments_pieces ps vs) before a s u
+      put : Puts (argument_pieces first value) out b
+      whole : (a : Writer) → Puts (arguments_pieces (first ∷ others) (value ∷ values)) out a → Puts (arguments_pieces ps vs) before a
 
-    next : (ps : List Param) (xs : List Arg) (vs : List Val) → Declares ltext ltable words ln o ps → Slotted dtext dtable dn ps xs places
-        → Left ps xs vs out at i → Next ps xs vs
+    next : (ps : List Param) (xs : List Arg) (vs : List Val) → Takes callee ps → Slotted doc.text.now doc.table.now doc.count ps xs places
+        → Left ps xs vs out i → Next ps xs vs
     next ps xs vs d f l = go l.left refl
       where
         go : (qs : List Param) → l.left ≡ qs → Next ps xs vs
@@ -132,25 +135,25 @@ module _ (dtext dtable : List ℕ) (dn : ℕ) (places ltext ltable words : List 
               nth = λ k p j. n (suc k) p (after j);
               valued = w.rest;
               put = one q (argument_for 0 i q xs) w.one (parameter-at d m) (f i q m) w.this;
-              whole = λ a u y. l.whole a u (rw (e, w.whole) y);
+              whole = λ a y. l.whole a (rw (e, w.whole) y);
             }
 
-    pub puts-last : o.count ≤ i + 1 → PutsSlots dtext dtable dn places ltext ltable words ln o before b s t
+    pub puts-last : callee.operation.count ≤ i + 1 → PutsSlots doc places callee before b
     unfolding arguments_pieces more_arguments_pieces
     puts-last end ps xs vs d f m v = go (next ps xs vs d f (walk ps xs vs d f m v))
       where
-        go : Next ps xs vs → Puts (arguments_pieces ps vs) before b s t
+        go : Next ps xs vs → Puts (arguments_pieces ps vs) before b
         go r = by r.others refl
           where
-            by : (qs : List Param) → r.others ≡ qs → Puts (arguments_pieces ps vs) before b s t
-            by [] e = r.whole b t (rw e r.put)
+            by : (qs : List Param) → r.others ≡ qs → Puts (arguments_pieces ps vs) before b
+            by [] e = r.whole b (rw e r.put)
             by (q ∷ qs) e =
                 let z : length r.others ≡ suc (length qs) = ap length e in
                 absurd (omega (arith, r.size, z, d.count, end))
 
-    pub puts-on : i + 1 < o.count → {c : List ℕ} {u : Place} → Puts (λ r. mark (ascii ",") ∷ r) b c t u → PutsLeft c u (i + 1)
+    pub puts-on : i + 1 < callee.operation.count → {c : Writer} → Puts (λ r. mark (ascii ",") ∷ r) b c → PutsLeft c (i + 1)
     unfolding arguments_pieces
-    puts-on more {c} {u} comma ps xs vs d f m v =
+    puts-on more {c} comma ps xs vs d f m v =
         let r = next ps xs vs d f (walk ps xs vs d f m v) in
         let j : i + 1 ≡ suc i = add-one i in
         let some_left : 0 < length r.others = omega (arith, r.size, d.count, more) in
@@ -160,6 +163,5 @@ module _ (dtext dtable : List ℕ) (dn : ℕ) (places ltext ltable words : List 
           size = omega (arith, r.size);
           nth = λ k p n. let e : i + suc k ≡ i + 1 + k = omega arith in subst (λ (x : ℕ). Nth x p ps) e (r.nth k p n);
           valued = ap (λ (x : ℕ). values_for (filled_from xs x r.others)) j ∙ r.valued;
-          whole = λ a z y.
-              r.whole a z (puts_then r.put (comma-then xs (suc i) r.others some_left r.values r.valued comma y));
+          whole = λ a y. r.whole a (puts_then r.put (comma-then xs (suc i) r.others some_left r.values r.valued comma y));
         }

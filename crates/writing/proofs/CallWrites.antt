@@ -18,8 +18,10 @@ use Rattle.lexis.specs.Symbol.{equal, semicolon, right_round}
 use Rattle.syntax.specs.Tree.{Header, Arg, Call, Document}
 use Rattle.syntax.specs.Parser.{begins, plain, commas, row, argument, call}
 use Rattle.syntax.specs.Parser.Parse.{ok}
+use Rattle.syntax.specs.Tokens.{from}
+use Rattle.syntax.specs.declared.tokens.Tokens.{Tokens}
 use Rattle.syntax.specs.Table.{toks}
-use Rattle.lists.specs.declared.directory.Lookup.TheVariants.{At, Missing}
+use Rattle.std.specs.Prelude.{Some, None}
 use Rattle.lists.specs.Fault.{first}
 use Rattle.lists.specs.Reading.{is_some, read_at, result_type}
 use Rattle.lists.specs.Scans.{from_symbol}
@@ -29,7 +31,6 @@ use Rattle.lists.specs.Directory.{OperationAt, OperationsAt}
 use Rattle.lists.proofs.Faultless.{own-clean}
 use Rattle.documents.specs.Binding.{slots, misplaced}
 use Rattle.documents.specs.DocumentRules.{by_operation, argument_faults, document_faults, bound_at}
-use Rattle.documents.specs.declared.stages.Sizes.{Sizes}
 use Rattle.documents.specs.Calls.{Calls}
 use Rattle.documents.specs.Calls.Calls.{a_call}
 use Rattle.documents.specs.Judged.{Directed, Readable, CallWith}
@@ -40,13 +41,12 @@ use Rattle.documents.proofs.Items.{token-there}
 use Rattle.documents.proofs.Flat.{left-starts}
 use Rattle.documents.proofs.CallPlaces.{FoundEqual, call-parts, call_from, call_ends}
 use Rattle.documents.proofs.Judgements.{parts, arguments-are, arguments-inside, found-readable}
-use Rattle.writing.specs.declared.place.Place.{Place}
+use Rattle.writing.specs.declared.writer.Writer.{Writer}
 use Rattle.writing.specs.Plan.{PlanCall, Plan, values_for, plan_call, plan_calls, spellings, plan_of}
 use Rattle.writing.specs.Pieces.{Piece}
 use Rattle.writing.specs.Pieces.{text as piece_text}
 use Rattle.writing.specs.Layout.{spaced, lined, name_piece, mark, names_pieces, left_pieces, arguments_pieces, params_of, call_pieces, calls_pieces}
 use Rattle.writing.specs.Layout.{document_pieces}
-use Rattle.writing.specs.declared.call.Step.{Step}
 use Rattle.writing.specs.Writing.{stored, place_after, keeps_limits, start, Puts, PutsWithin, put, over, PutsAll, all-put, left_over, PutsCall}
 use Rattle.writing.proofs.Found.{params-found}
 use Rattle.writing.proofs.Planned.{bound, both, planned}
@@ -114,13 +114,13 @@ under hs c {h} {p} e f g =
 
 -- its parts were put one after the other
 module _ {hs : List Header} {h : Header} {c : Call} {p : PlanCall} (u : Under hs h c p) where
-  pub puts-call : {t : Token} {o₀ o₁ o₂ o₃ o₄ o₅ : List ℕ} {s₀ s₁ s₂ s₃ s₄ s₅ : Place} → t ≡ c.op
-      → Puts (left_pieces p.left) o₀ o₁ s₀ s₁
-      → Puts (λ q. mark (ascii "=") ∷ name_piece t.bytes ∷ mark (ascii "(") ∷ q) o₁ o₂ s₁ s₂
-      → Puts (arguments_pieces h.params p.values) o₂ o₃ s₂ s₃
-      → Puts (λ q. mark (ascii ")") ∷ q) o₃ o₄ s₃ s₄
-      → Puts (λ q. lined Kind.syntactic (ascii ";") ∷ q) o₄ o₅ s₄ s₅
-      → Puts (call_pieces hs p) o₀ o₅ s₀ s₅
+  pub puts-call : {t : Token} {o₀ o₁ o₂ o₃ o₄ o₅ : Writer} → t ≡ c.op
+      → Puts (left_pieces p.left) o₀ o₁
+      → Puts (λ q. mark (ascii "=") ∷ name_piece t.bytes ∷ mark (ascii "(") ∷ q) o₁ o₂
+      → Puts (arguments_pieces h.params p.values) o₂ o₃
+      → Puts (λ q. mark (ascii ")") ∷ q) o₃ o₄
+      → Puts (λ q. lined Kind.syntactic (ascii ";") ∷ q) o₄ o₅
+      → Puts (call_pieces hs p) o₀ o₅
   unfolding call_pieces
   puts-call {t} e l o a k z =
       let name : t.bytes ≡ p.op = ap (λ (x : Token). x.bytes) e ∙ u.op in
@@ -163,7 +163,7 @@ readable-calls d records (c ∷ cs) j e r zero l =
     let x = both (plan_call hs c) (plan_calls hs cs) (λ q qs. q ∷ qs) e in
     let w = planned hs c x.one-there in
     let there : is_some (find hs c.op) ≡ true = ap is_some w.found in
-    let k = found-readable d c.op {o = found hs c.op} {k = index_of hs c.op} refl (ap (λ (b : Bool). cond b (At (index_of hs c.op)) Missing) there) in
+    let k = found-readable d c.op {o = found hs c.op} {k = index_of hs c.op} refl (ap (λ (b : Bool). cond b (Some (index_of hs c.op)) None) there) in
     let z : j + 0 ≡ j = omega arith in
     subst (Readable _ _) (sym (ap (λ (m : ℕ). get_or records (m * call_size) 0) z ∙ record-names hs records j c cs r)) k
 readable-calls {words = words} {n = n} d records (c ∷ cs) j e r (suc i) l =
@@ -173,28 +173,28 @@ readable-calls {words = words} {n = n} d records (c ∷ cs) j e r (suc i) l =
     subst (λ (m : ℕ). Readable words n (get_or records (m * call_size) 0)) z
     (readable-calls d records cs (j + 1) x.two-there (record-next hs records j c cs r) i (omega arith))
 
-module _ (ltext ltable words records text table : List ℕ) (z : Sizes) (hs : List Header) (us : List Token) (all : List Piece → List Piece)
-    (out₀ : List ℕ) (s₀ : Place) where
+module _ (list : Tokens) (words records : List ℕ) (doc : Tokens) (count : ℕ) (hs : List Header) (us : List Token) (all : List Piece → List Piece) (out₀ : Writer) where
   -- at place at, after i calls: the calls that are left, and their plans; all goes on with theirs from here
-  pub record Ahead (i at : ℕ) (out : List ℕ) (s : Place) : Type 0 where
+  pub record Ahead (i at : ℕ) (out : Writer) : Type 0 where
     pub calls : List Call
     pub plans : List PlanCall
-    pub are : Calls max_brackets (toks text table z.document at) calls us
-    pub counted : z.calls ≡ i + length calls
+    pub are : Calls max_brackets (from doc at) calls us
+    pub counted : count ≡ i + length calls
     pub called : Stored records (i * call_size) (flat_map (call_record hs) calls)
     pub clean : flat_map (argument_faults hs) calls ≡ []
     pub planned : plan_calls hs calls ≡ some plans
-    pub bytes : (r : List Piece) → stored out₀ s₀.bytes (piece_text (all r)) ≡ stored out s.bytes (piece_text (calls_pieces hs plans r))
-    pub place : (r : List Piece) → place_after s₀ (all r) ≡ place_after s (calls_pieces hs plans r)
+    pub same : out.out.ghost_name ≡ out₀.out.ghost_name
+    pub bytes : (r : List Piece) → stored out₀.out.now out₀.place.bytes (piece_text (all r)) ≡ stored out.out.now out.place.bytes (piece_text (calls_pieces hs plans r))
+    pub place : (r : List Piece) → place_after out₀.place (all r) ≡ place_after out.place (calls_pieces hs plans r)
 
-  module _ (ops : OperationsAt ltext ltable words z.list 0 hs) (faultless : first (list_faults hs) ≡ nothing) where
-    pub ahead-next : (i at : ℕ) {out out' : List ℕ} {s : Place} {r : Step} → i < z.calls
-        → PutsCall ltext ltable words z.list (get_or records (i * call_size) 0) text table z.document at out out' s r
-        → Ahead i at out s → Ahead (i + 1) r.next out' r.place
+  module _ (ops : OperationsAt list.text.now list.table.now words list.count 0 hs) (faultless : first (list_faults hs) ≡ nothing) where
+    pub ahead-next : (i at : ℕ) {out out' : Writer} {next : ℕ} → i < count
+        → PutsCall list words (get_or records (i * call_size) 0) doc at out out' next
+        → Ahead i at out → Ahead (i + 1) next out'
     unfolding flat_map plan_calls calls_pieces
-    ahead-next i at {out} {out'} {s} {r} l puts w = go w.calls refl w.are refl
+    ahead-next i at {out} {out'} {next} l puts w = go w.calls refl w.are refl
       where
-        go : (cs : List Call) {ts : List Token} → w.calls ≡ cs → Calls max_brackets ts cs us → ts ≡ toks text table z.document at → Ahead (i + 1) r.next out' r.place
+        go : (cs : List Call) {ts : List Token} → w.calls ≡ cs → Calls max_brackets ts cs us → ts ≡ from doc at → Ahead (i + 1) next out'
         go [] e k q = absurd (omega (arith, w.counted, l, ap length e))
         go (c ∷ cs) e (a_call {us = vs} h on) q =
             let f = (append-eq-nil_iff {p = argument_faults hs c} {q = flat_map (argument_faults hs) cs}).0 (ap (flat_map (argument_faults hs)) (sym e) ∙ w.clean) in
@@ -203,7 +203,7 @@ module _ (ltext ltable words records text table : List ℕ) (z : Sizes) (hs : Li
             let stands = operation-of c.op ops (ap is_some p.found) in
             let rec = subst (λ (ds : List Call). Stored records (i * call_size) (flat_map (call_record hs) ds)) e w.called in
             let k : 0 + index_of hs c.op ≡ get_or records (i * call_size) 0 = zero-add (index_of hs c.op) ∙ sym (record-names hs records i c cs rec) in
-            let here = puts hs stands.head c vs x.one (subst (λ (m : ℕ). OperationAt ltext ltable words z.list m stands.head) k stands.stands)
+            let here = puts hs stands.head c vs x.one (subst (λ (m : ℕ). OperationAt list.text.now list.table.now words list.count m stands.head) k stands.stands)
             (stands.own (own-clean hs faultless)) stands.is (rw q at h) f.0 x.one-there in
             record {
               calls = cs;
@@ -213,41 +213,45 @@ module _ (ltext ltable words records text table : List ℕ) (z : Sizes) (hs : Li
               called = record-next hs records i c cs rec;
               clean = f.1;
               planned = x.two-there;
-              bytes = λ y. w.bytes y ∙ ap (λ (ps : List PlanCall). stored out s.bytes (piece_text (calls_pieces hs ps y))) (sym x.made) ∙ here.0.bytes
+              same = here.0.same ∙ w.same;
+              bytes = λ y. w.bytes y ∙ ap (λ (ps : List PlanCall). stored out.out.now out.place.bytes (piece_text (calls_pieces hs ps y))) (sym x.made) ∙ here.0.bytes
                   (calls_pieces hs x.two y);
-              place = λ y. w.place y ∙ ap (λ (ps : List PlanCall). place_after s (calls_pieces hs ps y)) (sym x.made) ∙ here.0.place (calls_pieces hs x.two y);
+              place = λ y. w.place y ∙ ap (λ (ps : List PlanCall). place_after out.place (calls_pieces hs ps y)) (sym x.made) ∙ here.0.place (calls_pieces hs x.two y);
             }
 
-  pub ahead-end : (i at : ℕ) {out : List ℕ} {s : Place} → z.calls ≤ i → Ahead i at out s → PutsWithin all out₀ out s₀ s
+  pub ahead-end : (i at : ℕ) {out : Writer} → count ≤ i → Ahead i at out → PutsWithin all out₀ out
   unfolding plan_calls calls_pieces
-  ahead-end i at {out} {s} l w = go w.calls refl
+  ahead-end i at {out} l w = go w.calls refl
     where
-      go : (cs : List Call) → w.calls ≡ cs → PutsWithin all out₀ out s₀ s
+      go : (cs : List Call) → w.calls ≡ cs → PutsWithin all out₀ out
       go [] e =
           let q : [] ≡ w.plans = cc (ap (plan_calls hs) (sym e) ∙ w.planned) in
           put (record {
-            bytes = λ r. w.bytes r ∙ ap (λ (ps : List PlanCall). stored out s.bytes (piece_text (calls_pieces hs ps r))) (sym q);
-            place = λ r. w.place r ∙ ap (λ (ps : List PlanCall). place_after s (calls_pieces hs ps r)) (sym q);
+            same = w.same;
+            bytes = λ r. w.bytes r ∙ ap (λ (ps : List PlanCall). stored out.out.now out.place.bytes (piece_text (calls_pieces hs ps r))) (sym q);
+            place = λ r. w.place r ∙ ap (λ (ps : List PlanCall). place_after out.place (calls_pieces hs ps r)) (sym q);
           })
       go (c ∷ cs) e = let n : length w.calls ≡ suc (length cs) = ap length e in absurd (omega (arith, w.counted, l, n))
 
   -- beyond the limits no further call matters
-  pub ahead-over : (i at : ℕ) {out : List ℕ} {s : Place} → keeps_limits s ≡ false → Ahead i at out s → PutsWithin all out₀ out s₀ s
-  ahead-over i at {s = s} f w = over f (λ r. ap keeps_limits (w.place r) ∙ stays-over s (calls_pieces hs w.plans r) f)
+  pub ahead-over : (i at : ℕ) {out : Writer} → keeps_limits out.place ≡ false → Ahead i at out → PutsWithin all out₀ out
+  ahead-over i at {out} f w = over f (λ r. ap keeps_limits (w.place r) ∙ stays-over out.place (calls_pieces hs w.plans r) f)
 
 -- ---- the document
 
-pub puts-document : (hs : List Header) (d : Document) {p : Plan} {o₀ o₁ o₂ o₃ : List ℕ} {s₁ s₂ s₃ : Place} → plan_of hs d ≡ some p
+pub puts-document : (hs : List Header) (d : Document) {p : Plan} {out out' : List ℕ} {o₀ o₁ o₂ o₃ : Writer} → plan_of hs d ≡ some p
+    → o₀.out.now ≡ out → o₀.place ≡ start
     → Puts (λ q.
     spaced Kind.keyword (ascii "version") ∷ lined Kind.real (ascii "1.0") ∷ spaced Kind.keyword (ascii "graph") ∷ name_piece d.graph.bytes ∷ mark
     (ascii "(")
     ∷ names_pieces (spellings d.inputs) (mark (ascii ")") ∷ mark (ascii "->") ∷ mark (ascii "(")
-    ∷ names_pieces (spellings d.outputs) (lined Kind.syntactic (ascii ")") ∷ lined Kind.syntactic (ascii "{") ∷ q))) o₀ o₁ start s₁
-    → ((cs : List PlanCall) → plan_calls hs d.calls ≡ some cs → PutsWithin (calls_pieces hs cs) o₁ o₂ s₁ s₂)
-    → Puts (λ q. lined Kind.syntactic (ascii "}") ∷ q) o₂ o₃ s₂ s₃
-    → PutsAll (document_pieces hs p) o₀ o₃ s₃
+    ∷ names_pieces (spellings d.outputs) (lined Kind.syntactic (ascii ")") ∷ lined Kind.syntactic (ascii "{") ∷ q))) o₀ o₁
+    → ((cs : List PlanCall) → plan_calls hs d.calls ≡ some cs → PutsWithin (calls_pieces hs cs) o₁ o₂)
+    → Puts (λ q. lined Kind.syntactic (ascii "}") ∷ q) o₂ o₃
+    → (o₃.out.ghost_name ≡ o₀.out.ghost_name → out' ≡ o₃.out.now)
+    → PutsAll (document_pieces hs p) out out' o₃.place
 unfolding plan_of document_pieces
-puts-document hs d {p} {o₀} {o₁} {o₂} {o₃} {s₁} {s₂} {s₃} e h c k =
+puts-document hs d {p} {out} {out'} {o₀} {o₁} {o₂} {o₃} e y z h c k ends =
     let made : List PlanCall → Plan = λ cs. record {
       graph = d.graph.bytes;
       inputs = spellings d.inputs;
@@ -257,18 +261,19 @@ puts-document hs d {p} {o₀} {o₁} {o₂} {o₃} {s₁} {s₂} {s₃} e h c k 
     } in
     let x = bound (plan_calls hs d.calls) (λ cs. some (made cs)) e in
     let is : made x.it ≡ p = cc x.gives in
-    subst (λ (y : Plan). PutsAll (document_pieces hs y) o₀ o₃ s₃) is (go x.it (c x.it x.there))
+    subst (λ (y : Plan). PutsAll (document_pieces hs y) out out' o₃.place) is (go x.it (c x.it x.there))
   where
     close : List Piece
     close = lined Kind.syntactic (ascii "}") ∷ []
 
-    go : (cs : List PlanCall) → PutsWithin (calls_pieces hs cs) o₁ o₂ s₁ s₂
+    go : (cs : List PlanCall) → PutsWithin (calls_pieces hs cs) o₁ o₂
         → PutsAll (document_pieces hs (record {
           graph = d.graph.bytes;
           inputs = spellings d.inputs;
           outputs = spellings
               d.outputs;
           calls = cs;
-        })) o₀ o₃ s₃
-    go cs (put q) = let all = puts_then h (puts_then q k) in all-put (puts-stored all) (puts-onward all)
-    go cs (over f g) = left_over (ap keeps_limits (puts-onward k) ∙ stays-over s₂ close f) (ap keeps_limits (h.place (calls_pieces hs cs close)) ∙ g close)
+        })) out out' o₃.place
+    go cs (put q) = let all = puts_then h (puts_then q k) in all-put (ends all.same ∙ rw (y, z) at (puts-stored all)) (rw z at (puts-onward all))
+    go cs (over f g) = left_over (ap keeps_limits (puts-onward k) ∙ stays-over o₂.place close f)
+        (rw z at (ap keeps_limits (h.place (calls_pieces hs cs close)) ∙ g close))

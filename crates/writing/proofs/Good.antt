@@ -21,8 +21,8 @@ use Rattle.lexis.specs.Number.{parts_of, parts_len, sticks, in_range}
 use Rattle.lexis.specs.Lexeme.{number_lexeme, word_lexeme, string_lexeme, is_pair, is_arrow, mark_lexeme, lexeme}
 use Rattle.lexis.specs.Lexer.{Token, accepted, lex, Placed, next}
 use Rattle.lexis.specs.Lexer.{none as no-token}
-use Rattle.lexis.specs.declared.token.Lexeme.{Lexeme}
-use Rattle.lexis.specs.declared.token.Lexeme.TheVariants as L
+use Rattle.lexis.specs.Lexeme as L
+use Rattle.lexis.specs.Lexeme.{Lexeme}
 use Rattle.lexis.specs.Symbol.{sym_of, symbol_of, other, minus, a_name}
 use Rattle.lexis.proofs.Theorems.{placed}
 use Rattle.lists.specs.Reading.{is_number, content_of}

@@ -16,7 +16,7 @@ use Rattle.syntax.specs.Tree.{Ty}
 use Rattle.syntax.specs.Grammar.{IsTypeName}
 use Rattle.syntax.specs.Grammar.IsTypeName.{is-tensor, is-extent, is-scalar, is-logical, is-string}
 use Rattle.lists.specs.Reading.{is_extent, Val, v_name, v_extent, v_string, where-true, name_at, literal_at, is_number, content_of, number_of, truth_of}
-use Rattle.writing.specs.declared.place.Place.{Place}
+use Rattle.writing.specs.declared.writer.Writer.{Writer}
 use Rattle.writing.specs.Spelling.{spell_string, spell_truth}
 use Rattle.writing.specs.Layout.{pieces}
 use Rattle.writing.specs.Writing.{Puts, PutsWord, leaf_at}
@@ -81,23 +81,23 @@ module _ {at : ℕ} {u : Ty} (negative : Bool) (k : ℕ) (w : List ℕ) (t : Tok
   pub a-number : (k ≡ Kind.name → ⊥) → (k ≡ Kind.string → ⊥) → (k ≡ Kind.truth → ⊥) → (at ≡ extent_word → ⊥) → (is_number k ≡ true) × (v ≡ number_of negative w)
   a-number n s b x = number_is negative k w s b x is (literal n)
 
-  module _ {out out' : List ℕ} {s r : Place} where
-    pub puts-name : k ≡ Kind.name → PutsWord w out out' s r → Puts (pieces v) out out' s r
+  module _ {out out' : Writer} where
+    pub puts-name : k ≡ Kind.name → PutsWord w out out' → Puts (pieces v) out out'
     unfolding pieces
     puts-name n p = rw (name-is w is (rw n at here)) (p Kind.name)
 
-    pub puts-string : k ≡ Kind.string → PutsWord (spell_string (content_of w)) out out' s r → Puts (pieces v) out out' s r
+    pub puts-string : k ≡ Kind.string → PutsWord (spell_string (content_of w)) out out' → Puts (pieces v) out out'
     unfolding pieces
     puts-string n p = rw (string-is negative w is (rw n at here)) (p Kind.string)
 
-    pub puts-truth : k ≡ Kind.truth → PutsWord (spell_truth (eqb (length w) 4)) out out' s r → Puts (pieces v) out out' s r
+    pub puts-truth : k ≡ Kind.truth → PutsWord (spell_truth (eqb (length w) 4)) out out' → Puts (pieces v) out out'
     unfolding pieces
     puts-truth n p = rw (truth-is negative w is (rw n at here)) (p Kind.truth)
 
     pub puts-extent : (k ≡ Kind.name → ⊥) → at ≡ extent_word
-        → (k ≡ Kind.whole → Puts (pieces (v_extent (signed negative (value_from 0 w)))) out out' s r) → Puts (pieces v) out out' s r
+        → (k ≡ Kind.whole → Puts (pieces (v_extent (signed negative (value_from 0 w)))) out out') → Puts (pieces v) out out'
     puts-extent n x p = let q = extent-is negative k w x is (literal n) in rw q.1 (p q.0)
 
     pub puts-number : (k ≡ Kind.name → ⊥) → (k ≡ Kind.string → ⊥) → (k ≡ Kind.truth → ⊥) → (at ≡ extent_word → ⊥)
-        → (is_number k ≡ true → Puts (pieces (number_of negative w)) out out' s r) → Puts (pieces v) out out' s r
+        → (is_number k ≡ true → Puts (pieces (number_of negative w)) out out') → Puts (pieces v) out out'
     puts-number n c b x p = let q = a-number n c b x in rw q.1 (p q.0)

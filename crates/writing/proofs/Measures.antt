@@ -11,7 +11,6 @@ use lib.Dec.{leb, ltb}
 use lib.ListN.{length, set, take, length-set, length-take, length-drop}
 use lib.Seq.{sets, sets-eq, take-append_seam}
 use Rattle.lexis.specs.Sizes.{max_text, max_tokens}
-use Rattle.lexis.specs.Bytes.{class_table}
 use Rattle.lexis.specs.Lexer.{Token, accepted, lex}
 use Rattle.syntax.specs.Table.{token_at, tokens_from, toks, Holds}
 use Rattle.writing.specs.declared.place.Place.{Place}
@@ -112,11 +111,9 @@ each-token P text table i (suc k) (suc j) e h =
     let s : i + suc j ≡ i + 1 + j = omega arith in
     rw s (each-token P text table (i + 1) k j e.1 (omega (arith, h)))
 
-pub ranged : (classes text table : List ℕ) (n : ℕ) → classes ≡ class_table → Holds text table n → lex text ≡ accepted (toks text table n 0)
-    → Ranged classes text table n
+pub ranged : (text table : List ℕ) (n : ℕ) → Holds text table n → lex text ≡ accepted (toks text table n 0) → Ranged text table n
 unfolding token_at
-ranged classes text table n k held e = record {
-  classed = k;
+ranged text table n held e = record {
   within = λ i l. record { number = (good i l).number; whole = λ w. record { begun = begun i l; digits = (good i l).whole w } };
 }
   where

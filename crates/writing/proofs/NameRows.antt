@@ -15,7 +15,7 @@ use Rattle.syntax.proofs.Shrinks.{expect-shrinks}
 use Rattle.lists.proofs.Parts.{First, first_of}
 use Rattle.documents.proofs.RowParses.{expect-ok, Rowed, row_ok}
 use Rattle.documents.proofs.RowParses.Rowed.{last, next}
-use Rattle.writing.specs.declared.place.Place.{Place}
+use Rattle.writing.specs.declared.writer.Writer.{Writer}
 use Rattle.writing.specs.Pieces.{Piece}
 use Rattle.writing.specs.Plan.{spellings}
 use Rattle.writing.specs.Layout.{mark, names_pieces, more_names_pieces}
@@ -24,8 +24,8 @@ use Rattle.writing.specs.Writing.{Puts, PutsWord}
 use Rattle.writing.proofs.Putting.{puts_then, puts-same}
 
 -- the names of the row that begins ts, if one does, were put
-abbrev pub PutsNames : List Token → List ℕ → List ℕ → Place → Place → Type 0
-PutsNames ts out out' s s' = (xs us : List Token) → row plain (commas right_round) (expect a_name) ts ≡ ok xs us → Puts (names_pieces (spellings xs)) out out' s s'
+abbrev pub PutsNames : List Token → Writer → Writer → Type 0
+PutsNames ts out out' = (xs us : List Token) → row plain (commas right_round) (expect a_name) ts ≡ ok xs us → Puts (names_pieces (spellings xs)) out out'
 
 -- the names after a comma
 after-comma : {ts us xs : List Token} → Rowed right_round (expect a_name) ts us xs → (r : List Piece)
@@ -43,29 +43,29 @@ module _ (text table : List ℕ) (n i : ℕ) where
       → Rowed right_round (expect a_name) (toks text table n i) us xs
   row_here k = row_ok right_round (expect a_name) (expect-shrinks a_name) (toks text table n i) k
 
-  pub names-none : {out out' : List ℕ} {s s' : Place} → n ≤ i → PutsNames (toks text table n i) out out' s s'
-  names-none {out} {out'} {s} {s'} h xs us k = go (row_here k)
+  pub names-none : {out out' : Writer} → n ≤ i → PutsNames (toks text table n i) out out'
+  names-none {out} {out'} h xs us k = go (row_here k)
     where
-      go : {ys : List Token} → Rowed right_round (expect a_name) (toks text table n i) us ys → Puts (names_pieces (spellings xs)) out out' s s'
+      go : {ys : List Token} → Rowed right_round (expect a_name) (toks text table n i) us ys → Puts (names_pieces (spellings xs)) out out'
       go (last k c) = absurd (omega (arith, (name-here k).inside))
       go (next k c m) = absurd (omega (arith, (name-here k).inside))
 
-  module _ {out a : List ℕ} {s p : Place} (put : PutsWord (token_at text table i).bytes out a s p) {c : ℕ}
+  module _ {out a : Writer} (put : PutsWord (token_at text table i).bytes out a) {c : ℕ}
       (sees : c ≡ lookahead (toks text table n (i + 1))) where
-    pub names-last : (c ≡ comma → ⊥) → PutsNames (toks text table n i) out a s p
+    pub names-last : (c ≡ comma → ⊥) → PutsNames (toks text table n i) out a
     unfolding names_pieces more_names_pieces
     names-last w xs us k = go (row_here k)
       where
-        go : {ys : List Token} → Rowed right_round (expect a_name) (toks text table n i) us ys → Puts (names_pieces (spellings ys)) out a s p
+        go : {ys : List Token} → Rowed right_round (expect a_name) (toks text table n i) us ys → Puts (names_pieces (spellings ys)) out a
         go (last k e) = rw (← (name-here k).here) (put Kind.name)
         go (next k e m) = absurd (w (sees ∙ ap lookahead (name-here k).rest ∙ e))
 
-    pub names-next : {b o : List ℕ} {q s' : Place} → c ≡ comma → PutsWord (ascii ",") a b p q → PutsNames (toks text table n (i + 2)) b o q s'
-        → PutsNames (toks text table n i) out o s s'
+    pub names-next : {b o : Writer} → c ≡ comma → PutsWord (ascii ",") a b → PutsNames (toks text table n (i + 2)) b o
+        → PutsNames (toks text table n i) out o
     unfolding names_pieces
-    names-next {b} {o} {q} {s'} w then on xs us k = go (row_here k)
+    names-next {b} {o} w then on xs us k = go (row_here k)
       where
-        go : {ys : List Token} → Rowed right_round (expect a_name) (toks text table n i) us ys → Puts (names_pieces (spellings ys)) out o s s'
+        go : {ys : List Token} → Rowed right_round (expect a_name) (toks text table n i) us ys → Puts (names_pieces (spellings ys)) out o
         go (last k e) = let z : comma ≡ right_round = sym w ∙ sees ∙ ap lookahead (name-here k).rest ∙ e in absurd (omega arith)
         go (next {c = d} {us = ws} {xs = zs} k e m) =
             let f = first_of text table n (i + 1) d ws (name-here k).rest in

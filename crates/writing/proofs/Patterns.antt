@@ -18,8 +18,8 @@ use Rattle.lexis.specs.Bytes.{among}
 use Rattle.lexis.specs.Sizes.{max_brackets}
 use Rattle.lexis.specs.Kind as Kind
 use Rattle.lexis.specs.Lexer.{Token}
-use Rattle.syntax.specs.declared.Parsed.{Parsed}
-use Rattle.syntax.specs.declared.Parsed.TheVariants.{Done, Fault}
+use Rattle.syntax.specs.Read.{Parsed}
+use Rattle.syntax.specs.Read.Parsed.{Done, Fault}
 use Rattle.lexis.specs.Symbol.{sym_of, left_round, right_round, left_square, right_square, comma, equal}
 use Rattle.lexis.specs.Symbol.{a_name as name_symbol}
 use Rattle.syntax.specs.Tree.{Literal, Value, Values, Ty, Tys}
@@ -43,7 +43,7 @@ use Rattle.lists.specs.Reading.{Val, Vals, v_name, v_array, v_tuple, no-val, a-v
 use Rattle.lists.proofs.Parts.{toks-split, first_of}
 use Rattle.lists.proofs.Phrases.{left_is}
 use Rattle.documents.proofs.Items.{clash}
-use Rattle.writing.specs.declared.place.Place.{Place}
+use Rattle.writing.specs.declared.writer.Writer.{Writer}
 use Rattle.writing.specs.Pieces.{Piece}
 use Rattle.writing.specs.Layout.{mark, name_piece, pieces, items, more_items, left_pieces}
 use Rattle.writing.specs.Writing.{Puts, PutsWord, pattern_piece, pattern_pieces, ends_at, is_bracketed}
@@ -308,12 +308,12 @@ module _ (text table : List ℕ) (n : ℕ) where
         a-side : Side max_brackets (toks text table n at) us (left_pieces w)
         a-side = side (left_is max_brackets (toks text table n at) reads) (read_is v u w read)
 
-        pub left-inner : {out out' : List ℕ} {s s' : Place} → is_bracketed text table n at end ≡ true
-            → Puts (pattern_pieces (toks text table (end - 1) (at + 1))) out out' s s' → Puts (left_pieces w) out out' s s'
+        pub left-inner : {out out' : Writer} → is_bracketed text table n at end ≡ true
+            → Puts (pattern_pieces (toks text table (end - 1) (at + 1))) out out' → Puts (left_pieces w) out out'
         left-inner h p = puts-same (side-inner h a-side) p
 
-        pub left-whole : {out out' : List ℕ} {s s' : Place} → is_bracketed text table n at end ≡ false
-            → Puts (pattern_pieces (toks text table end at)) out out' s s' → Puts (left_pieces w) out out' s s'
+        pub left-whole : {out out' : Writer} → is_bracketed text table n at end ≡ false
+            → Puts (pattern_pieces (toks text table end at)) out out' → Puts (left_pieces w) out out'
         left-whole h p = puts-same (side-whole h a-side) p
 
 -- ---- the code's tests
@@ -323,13 +323,13 @@ module _ (text table : List ℕ) (n i : ℕ) (inside : i < n) {c : ℕ} (sees : 
   symbol-is = sees ∙ ap lookahead (toks_more text table n i inside)
 
   -- a bracket or a comma, and any other token
-  pub mark-put : {out out' : List ℕ} {s s' : Place} (x : ℕ) → among (ascii ",[]()") x ≡ true → c ≡ x → PutsWord (x ∷ []) out out' s s'
-      → Puts (λ r. pattern_piece (token_at text table i) ∷ r) out out' s s'
+  pub mark-put : {out out' : Writer} (x : ℕ) → among (ascii ",[]()") x ≡ true → c ≡ x → PutsWord (x ∷ []) out out'
+      → Puts (λ r. pattern_piece (token_at text table i) ∷ r) out out'
   mark-put x m e p = rw (mark-piece (token_at text table i) x (sym symbol-is ∙ e) m) (p Kind.syntactic)
 
-  pub word-put : {out out' : List ℕ} {s s' : Place} → (c ≡ comma → ⊥) → (c ≡ left_square → ⊥) → (c ≡ right_square → ⊥) → (c ≡ left_round → ⊥)
+  pub word-put : {out out' : Writer} → (c ≡ comma → ⊥) → (c ≡ left_square → ⊥) → (c ≡ right_square → ⊥) → (c ≡ left_round → ⊥)
       → (c ≡ right_round → ⊥)
-      → PutsWord (token_at text table i).bytes out out' s s' → Puts (λ r. pattern_piece (token_at text table i) ∷ r) out out' s s'
+      → PutsWord (token_at text table i).bytes out out' → Puts (λ r. pattern_piece (token_at text table i) ∷ r) out out'
   word-put f g h k l p =
       rw
       (word_piece (token_at text table i)
@@ -363,11 +363,11 @@ module _ (text table : List ℕ) (n at end : ℕ) {c : ℕ} (sees : c ≡ lookah
 -- ---- the tokens between two places, one after another
 
 module _ (text table : List ℕ) (to i : ℕ) where
-  pub parts_none : {out : List ℕ} {s : Place} → to ≤ i → Puts (pattern_pieces (toks text table to i)) out out s s
+  pub parts_none : {out : Writer} → to ≤ i → Puts (pattern_pieces (toks text table to i)) out out
   unfolding pattern_pieces
   parts_none h = rw (toks-none text table to i h) puts_none
 
-  pub parts_more : {a b c : List ℕ} {s t u : Place} → i < to → Puts (λ r. pattern_piece (token_at text table i) ∷ r) a b s t
-      → Puts (pattern_pieces (toks text table to (i + 1))) b c t u → Puts (pattern_pieces (toks text table to i)) a c s u
+  pub parts_more : {a b c : Writer} → i < to → Puts (λ r. pattern_piece (token_at text table i) ∷ r) a b
+      → Puts (pattern_pieces (toks text table to (i + 1))) b c → Puts (pattern_pieces (toks text table to i)) a c
   unfolding pattern_pieces
   parts_more h p q = rw (toks_more text table to i h) (puts_then p q)

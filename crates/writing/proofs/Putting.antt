@@ -1,6 +1,6 @@
 -- Laws of what is put. In order: one byte; one list of bytes after another, and from a place on; the output's length; one piece; one part
 -- after another.
-use mathlib.Core.Path.{◌≡◌, refl, sym, ap, ap₂, ◌∙◌}
+use mathlib.Core.Path.{◌≡◌, refl, sym, ap, ap₂, subst, ◌∙◌}
 use mathlib.Core.Bool.{Bool, true, false, cond}
 use mathlib.Core.List.{List, [], ◌∷◌, ◌++◌, append_assoc, append-nil}
 use Prim.Native.Nat.{ℕ, ◌+◌, ◌-◌, ◌≤◌, ◌<◌}
@@ -10,10 +10,10 @@ use borrow.Author.Tests.{lt-ltb, le-ltb, le-leb, lt-leb, leb-true, leb-false}
 use lib.Dec.{leb, ltb}
 use lib.ListN.{length, get_or, set, drop, length-set, drop_of_length-le}
 use lib.Seq.{drop-cons}
-use Rattle.writing.specs.declared.place.Place.{Place}
+use Rattle.writing.specs.declared.writer.Writer.{Writer}
 use Rattle.writing.specs.Pieces.{Piece, text}
 use Rattle.writing.specs.Layout.{piece}
-use Rattle.writing.specs.Writing.{max_count, one_more, store_byte, passed, stored, tallied, place_after, Puts, PutsWord}
+use Rattle.writing.specs.Writing.{max_count, one_more, store_byte, passed, stored, tallied, place_after, Wrote, one_token, Puts, PutsWord}
 
 -- ---- bytes
 
@@ -50,27 +50,36 @@ stored-append out at (b ∷ v) w = stored-append (store_byte out at b) (one_more
 abbrev pub Stores : List ℕ → List ℕ → List ℕ → ℕ → ℕ → Type 0
 Stores w out out' at end = (end ≡ passed at w) × (out' ≡ stored out at w)
 
-pub stores-byte : (out : List ℕ) (at b : ℕ) {out' : List ℕ} {end : ℕ} → (end ≡ one_more at) × (out' ≡ store_byte out at b) → Stores (b ∷ []) out out' at end
-unfolding passed stored
-stores-byte out at b e = e
-
 pub stores-then : (out : List ℕ) (at : ℕ) (v w : List ℕ) {mid out' : List ℕ} {on end : ℕ} → Stores v out mid at on → Stores w mid out' on end
     → Stores (v ++ w) out out' at end
 stores-then out at v w p q = (q.0 ∙ rw p.0 (sym (passed-append at v w)), q.1 ∙ rw (p.0, p.1) (sym (stored-append out at v w)))
 
--- a list of bytes from place i on: one byte more, and none
-pub passed-step : (at : ℕ) (w : List ℕ) (i : ℕ) → i < length w → passed at (drop i w) ≡ passed (one_more at) (drop (i + 1) w)
-unfolding passed
-passed-step at w i h = rw (add-one i, drop-cons w i 0 h)
+-- what a writer wrote, as what was stored; one list of bytes after another
+pub wrote-stores : {w : List ℕ} {out out' : Writer} → Wrote w out out' → Stores w out.out.now out'.out.now out.place.bytes out'.place.bytes
+wrote-stores p = (p.end, p.bytes)
 
+pub wrote-none : {out : Writer} → Wrote [] out out
+unfolding passed stored
+wrote-none = record { same = refl; bytes = refl; end = refl; tokens = refl }
+
+pub wrote-then : (v w : List ℕ) {a b c : Writer} → Wrote v a b → Wrote w b c → Wrote (v ++ w) a c
+wrote-then v w {a} p q =
+    let s = stores-then a.out.now a.place.bytes v w (wrote-stores p) (wrote-stores q) in
+    record { same = q.same ∙ p.same; bytes = s.1; end = s.0; tokens = q.tokens ∙ p.tokens }
+
+-- what is left of a word from place i on: one byte more, and none
+pub wrote-next : (w : List ℕ) (i : ℕ) {a b c : Writer} → i < length w → Wrote (get_or w i 0 ∷ []) a b → Wrote (drop (i + 1) w) b c → Wrote (drop i w) a c
+wrote-next w i {a} {c = c} h p q =
+    subst (λ (bs : List ℕ). Wrote bs a c) (sym (rw (add-one i) (drop-cons w i 0 h))) (wrote-then (get_or w i 0 ∷ []) (drop (i + 1) w) p q)
+
+pub wrote-end : (w : List ℕ) (i : ℕ) {a : Writer} → length w ≤ i → Wrote (drop i w) a a
+wrote-end w i h = rw (drop_of_length-le w h) wrote-none
+
+-- a list of bytes from place i on: one byte more, and none
 pub stored-step : (out : List ℕ) (at : ℕ) (w : List ℕ) (i : ℕ) → i < length w → stored out at (drop i w) ≡ stored (store_byte out at (get_or w i 0))
     (one_more at) (drop (i + 1) w)
 unfolding stored
 stored-step out at w i h = rw (add-one i, drop-cons w i 0 h)
-
-pub passed-end : (at : ℕ) (w : List ℕ) (i : ℕ) → length w ≤ i → passed at (drop i w) ≡ at
-unfolding passed
-passed-end at w i h = rw (drop_of_length-le w h)
 
 pub stored-end : (out : List ℕ) (at : ℕ) (w : List ℕ) (i : ℕ) → length w ≤ i → stored out at (drop i w) ≡ out
 unfolding stored
@@ -107,42 +116,39 @@ stored-length out at (b ∷ w) = stored-length (store_byte out at b) (one_more a
 -- ---- pieces
 
 -- one piece: its bytes and the white space after it were stored, and one token more was counted
-pub puts-piece : (p : Piece) {out out' : List ℕ} {s s' : Place}
-    → out' ≡ stored out s.bytes (p.bytes ++ p.space) → s'.bytes ≡ passed s.bytes (p.bytes ++ p.space) → s'.tokens ≡ one_more s.tokens
-    → Puts (λ r. p ∷ r) out out' s s'
+pub puts-piece : (p : Piece) {out mid out' : Writer} → Wrote (p.bytes ++ p.space) out mid → out' ≡ one_token mid → Puts (λ r. p ∷ r) out out'
 unfolding text tallied place_after
-puts-piece p {out} {out'} {s} {s'} o b t = record {
-  bytes = λ r. ap (stored out s.bytes) (sym (append_assoc p.bytes p.space (text r))) ∙ stored-append out s.bytes (p.bytes ++ p.space) (text r)
-      ∙ rw (o, b);
-  place = λ r. rw (t, b, ← append_assoc p.bytes p.space (text r), passed-append s.bytes (p.bytes ++ p.space) (text r));
-}
+puts-piece p {out} {mid} w e = rw e (record {
+  same = w.same;
+  bytes = λ r. ap (stored out.out.now out.place.bytes) (sym (append_assoc p.bytes p.space (text r)))
+      ∙ stored-append out.out.now out.place.bytes (p.bytes ++ p.space) (text r) ∙ rw (w.bytes, w.end);
+  place = λ r. rw (w.tokens, w.end, ← append_assoc p.bytes p.space (text r), passed-append out.place.bytes (p.bytes ++ p.space) (text r));
+})
 
 -- one piece without white space
-pub puts_word : (w : List ℕ) {out out' : List ℕ} {s s' : Place} → out' ≡ stored out s.bytes w → s'.bytes ≡ passed s.bytes w
-    → s'.tokens ≡ one_more s.tokens → PutsWord w out out' s s'
-puts_word w {out} {s = s} o b t k = puts-piece (piece k w) (o ∙ ap (stored out s.bytes) (sym (append-nil w)))
-    (b ∙ ap (passed s.bytes) (sym (append-nil w))) t
+pub puts_word : (w : List ℕ) {out mid out' : Writer} → Wrote w out mid → out' ≡ one_token mid → PutsWord w out out'
+puts_word w {out} {mid} p e k = puts-piece (piece k w) (subst (λ (bs : List ℕ). Wrote bs out mid) (sym (append-nil w)) p) e
 
 -- no piece; one part after another
-pub puts_none : {out : List ℕ} {s : Place} → Puts (λ r. r) out out s s
-puts_none = record { bytes = λ r. refl; place = λ r. refl }
+pub puts_none : {out : Writer} → Puts (λ r. r) out out
+puts_none = record { same = refl; bytes = λ r. refl; place = λ r. refl }
 
-pub puts_then : {P Q : List Piece → List Piece} {a b c : List ℕ} {s t u : Place} → Puts P a b s t → Puts Q b c t u → Puts (λ r. P (Q r)) a c s u
-puts_then {Q = Q} p q = record { bytes = λ r. p.bytes (Q r) ∙ q.bytes r; place = λ r. p.place (Q r) ∙ q.place r }
+pub puts_then : {P Q : List Piece → List Piece} {a b c : Writer} → Puts P a b → Puts Q b c → Puts (λ r. P (Q r)) a c
+puts_then {Q = Q} p q = record { same = q.same ∙ p.same; bytes = λ r. p.bytes (Q r) ∙ q.bytes r; place = λ r. p.place (Q r) ∙ q.place r }
 
 -- the same pieces, in other words
-pub puts-same : {P Q : List Piece → List Piece} {out out' : List ℕ} {s s' : Place} → ((r : List Piece) → P r ≡ Q r) → Puts P out out' s s'
-    → Puts Q out out' s s'
-puts-same {out = out} {s = s} e p = record {
-  bytes = λ r. ap (λ (x : List Piece). stored out s.bytes (text x)) (sym (e r)) ∙ p.bytes r;
-  place = λ r. ap (place_after s) (sym (e r)) ∙ p.place r;
+pub puts-same : {P Q : List Piece → List Piece} {out out' : Writer} → ((r : List Piece) → P r ≡ Q r) → Puts P out out' → Puts Q out out'
+puts-same {out = out} e p = record {
+  same = p.same;
+  bytes = λ r. ap (λ (x : List Piece). stored out.out.now out.place.bytes (text x)) (sym (e r)) ∙ p.bytes r;
+  place = λ r. ap (place_after out.place) (sym (e r)) ∙ p.place r;
 }
 
 -- all that was put, where nothing follows
-pub puts-stored : {P : List Piece → List Piece} {out out' : List ℕ} {s s' : Place} → Puts P out out' s s' → out' ≡ stored out s.bytes (text (P []))
+pub puts-stored : {P : List Piece → List Piece} {out out' : Writer} → Puts P out out' → out'.out.now ≡ stored out.out.now out.place.bytes (text (P []))
 unfolding text stored
 puts-stored p = sym (p.bytes [])
 
-pub puts-onward : {P : List Piece → List Piece} {out out' : List ℕ} {s s' : Place} → Puts P out out' s s' → s' ≡ place_after s (P [])
+pub puts-onward : {P : List Piece → List Piece} {out out' : Writer} → Puts P out out' → out'.place ≡ place_after out.place (P [])
 unfolding text passed tallied place_after
 puts-onward p = sym (p.place [])

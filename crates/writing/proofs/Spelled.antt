@@ -1,7 +1,8 @@
 -- How numbers and strings are spelt, step by step as the code does it. In order: the digits of a number, stored from the last on; digits that spell a number
 -- as they are; exponents; reduced numbers; the quote and the content of a string.
 use mathlib.Core.Path.{◌≡◌, refl, sym, ap, ap₂, ◌∙◌, subst}
-use mathlib.Core.Bool.{Bool, true, false, cond, ◌&&◌, and-true}
+use mathlib.Core.Bool.{Bool, true, false, cond, ◌&&◌, ◌||◌, and-true}
+use Rattle.std.specs.List.{list_any}
 use mathlib.Core.List.{List, [], ◌∷◌, ◌++◌, append_assoc, append-nil}
 use Prim.Native.Nat.{ℕ, zero, suc, ◌+◌, ◌-◌, ◌*◌, ◌^◌, ◌/◌, ◌%◌, ◌≤◌, ◌<◌}
 use native.Mathlib.Decide.{dec_lt}
@@ -20,10 +21,12 @@ use Rattle.lexis.specs.Ascii.{byte}
 use Rattle.lexis.specs.Sizes.{max_exponent, max_written, mantissa_end}
 use Rattle.lexis.specs.Bytes.{is_digit}
 use Rattle.lexis.specs.Number.{value_from, parts_of, written_of, reduced_of, is_near, is_small, in_range, reduction_of, reduction}
-use Rattle.lexis.specs.declared.number.Reduction.TheVariants.{Number, OutOfRange}
+use Rattle.std.proofs.Common.{Option, Some, None, pos}
+use Rattle.lexis.specs.declared.number.Number.{Number}
+use Rattle.lexis.proofs.Ranges.{reduced}
 use Rattle.lists.specs.Reading.{content_of}
 use Rattle.lists.proofs.Extents.{value-step}
-use Rattle.writing.specs.Spelling.{decimal_by, decimal, spell_exponent, holds_single, quote_for}
+use Rattle.writing.specs.Spelling.{decimal_by, decimal, spell_exponent, holds_single}
 use Rattle.writing.specs.Writing.{Unpadded, AreDigits}
 use Rattle.writing.specs.Fit.{All, none, more}
 use Rattle.writing.proofs.Good.{digit-range}
@@ -180,6 +183,14 @@ zero-first w i d u = go (eqb (get_or w i 0) (byte "0")) refl
 pub unpadded-next : (w : List ℕ) (i : ℕ) → i < length w → get_or w i 0 ≡ byte "0" → value_from 0 (drop i w) ≡ value_from 0 (drop (i + 1) w)
 unpadded-next w i h e = value-step w i 0 h ∙ rw e
 
+-- nor do all zeros before a place
+pub zeros-lead : (w : List ℕ) (i : ℕ) → i ≤ length w → ((k : ℕ) → k < i → get_or w k 0 ≡ byte "0") → value_from 0 (drop i w) ≡ value_from 0 w
+zeros-lead w zero h f = refl
+zeros-lead w (suc i) h f =
+    let j : i + 1 ≡ suc i = add-one i in
+    ap (λ (k : ℕ). value_from 0 (drop k w)) (sym j) ∙ sym (unpadded-next w i (omega arith) (f i (omega arith)))
+    ∙ zeros-lead w i (omega arith) (λ k l. f k (omega (arith, l)))
+
 -- ---- exponents, as the machine has them: a signed local holds bits
 
 -- a near exponent is small
@@ -244,9 +255,18 @@ pub second : (a b : Bool) → (a && b) ≡ true → b ≡ true
 second true b h = h
 second false b h = cc
 
+-- the parts of a number that is there
+mantissa_in : Option Number → ℕ
+mantissa_in None = 0
+mantissa_in (Some n) = n.mantissa
+
+exponent_in : Option Number → ℤ
+exponent_in None = pos 0
+exponent_in (Some n) = n.exponent
+
 -- there is a reduced number where the number is in range; what the code finds is that number, and near
 module _ (w : List ℕ) where
-  pub reduced-some : in_range w (parts_of w) ≡ true → reduction w ≡ OutOfRange → ⊥
+  pub reduced-some : in_range w (parts_of w) ≡ true → reduction w ≡ None → ⊥
   unfolding reduction_of
   reduced-some ok is =
       let q = rw ok at is in
@@ -259,13 +279,13 @@ module _ (w : List ℕ) where
       let r = reduced_of w (parts_of w) in
       second (ltb r.mantissa mantissa_end) (is_near r.exponent) (second (leb (written_of w (parts_of w)) max_written) (is_small r) ok)
 
-  module _ {m : ℕ} {e : ℤ} (is : reduction w ≡ Number m e) where
+  module _ {m : ℕ} {e : ℤ} (is : reduction w ≡ reduced m e) where
     found : (in_range w (parts_of w) ≡ true) × ((reduced_of w (parts_of w)).mantissa ≡ m) × ((reduced_of w (parts_of w)).exponent ≡ e)
-    unfolding reduction_of
+    unfolding reduction_of mantissa_in exponent_in
     found = go (in_range w (parts_of w)) (reduced_of w (parts_of w)).mantissa (reduced_of w (parts_of w)).exponent is
       where
-        go : (b : Bool) (x : ℕ) (y : ℤ) → cond b (Number x y) OutOfRange ≡ Number m e → (b ≡ true) × (x ≡ m) × (y ≡ e)
-        go true x y q = (refl, cc, cc)
+        go : (b : Bool) (x : ℕ) (y : ℤ) → cond b (reduced x y) None ≡ reduced m e → (b ≡ true) × (x ≡ m) × (y ≡ e)
+        go true x y q = (refl, ap mantissa_in q, ap exponent_in q)
         go false x y q = (cc, cc, cc)
 
     pub reduced-near : is_near e ≡ true
@@ -276,19 +296,11 @@ module _ (w : List ℕ) where
 
 -- ---- strings
 
--- the quote of a content from place i on: the byte there is a single quote, or not; none is left
-module _ (s : List ℕ) (i : ℕ) where
-  pub quote-found : i < length s → get_or s i 0 ≡ byte "'" → quote_for (drop i s) ≡ byte "\""
-  unfolding quote_for holds_single
-  quote-found h e = rw (drop-cons s i 0 h, eq-eqb (get_or s i 0) (byte "'") e)
-
-  pub quote-next : i < length s → (get_or s i 0 ≡ byte "'" → ⊥) → quote_for (drop i s) ≡ quote_for (drop (i + 1) s)
-  unfolding quote_for holds_single
-  quote-next h e = rw (add-one i, drop-cons s i 0 h, ne_eqb (get_or s i 0) (byte "'") e)
-
-  pub quote-none : length s ≤ i → quote_for (drop i s) ≡ byte "'"
-  unfolding quote_for holds_single
-  quote-none h = rw (drop_of_length-le s h)
+-- whether a content holds a single quote, as the library tests it
+pub single-held : (s : List ℕ) → list_any (λ y. eqb y (byte "'")) s ≡ holds_single s
+unfolding holds_single
+single-held [] = refl
+single-held (c ∷ s) = ap (λ (b : Bool). eqb c (byte "'") || b) (single-held s)
 
 -- what stands between the quotes: nothing in a word of fewer than two bytes
 pub content-short : (w : List ℕ) → length w < 2 → content_of w ≡ []

@@ -7,4 +7,3 @@ pub mod Fit
 pub mod Lawful
 -- What only the contracts of the code cite.
 pub mod Writing
-pub mod Writer

@@ -5,7 +5,7 @@ use mathlib.Core.List.{List, [], ◌∷◌, flat_map}
 use Rattle.std.proofs.Math.Option.{Option, some, none as nothing}
 use Rattle.spellings.specs.Comparison.{same_bytes}
 use Rattle.lexis.specs.Ascii.{ascii, byte}
-use Rattle.lexis.specs.Bytes.{among, is_digit, span_len, class_table}
+use Rattle.lexis.specs.Bytes.{among, is_digit, span_len}
 use Rattle.lexis.specs.Sizes.{max_text, max_tokens, max_number, max_brackets}
 use Rattle.lexis.specs.Kind as Kind
 use Rattle.lexis.specs.Number.{parts_of, value_from, in_range}
@@ -18,6 +18,8 @@ use Rattle.syntax.specs.Parser.{Parse, plain, commas, row, value, argument, call
 use Rattle.syntax.specs.Parser.Parse.{ok, bad}
 use Rattle.syntax.specs.Inner.{lookahead}
 use Rattle.syntax.specs.Table.{kind_at, token_at, toks}
+use Rattle.syntax.specs.Tokens.{from}
+use Rattle.syntax.specs.declared.tokens.Tokens.{Tokens}
 use Rattle.lists.specs.Fault.{first}
 use Rattle.lists.specs.Reading.{Val, Vals, is_number, name_at, literal_at, read_at, read_all, read_each}
 use Rattle.lists.specs.ListRules.{list_faults}
@@ -33,14 +35,13 @@ use Rattle.documents.specs.Judged.{Readable}
 use Rattle.documents.specs.Records.{call_size, Stored}
 use Rattle.documents.specs.Tables.{call_record}
 use Rattle.documents.specs.Tallies.{Declares, Nth}
+use Rattle.documents.specs.Callees.{Takes}
+use Rattle.documents.specs.declared.callee.Callee.{Callee}
 use Rattle.documents.specs.declared.operation.Operation.{Operation}
-use Rattle.documents.specs.declared.stages.Sizes.{Sizes}
 use Rattle.writing.specs.declared.place.Place.{Place}
-use Rattle.writing.specs.declared.value.Put.{Put}
+use Rattle.writing.specs.declared.writer.Writer.{Writer}
 use Rattle.writing.specs.declared.argument.Walk.{Walk}
 use Rattle.writing.specs.declared.argument.Aim.{Aim}
-use Rattle.writing.specs.declared.argument.Arguments.{Arguments}
-use Rattle.writing.specs.declared.call.Step.{Step}
 use Rattle.writing.specs.Plan.{PlanCall, Plan, value_for, values_for, plan_call, plan_calls, plan_of}
 use Rattle.writing.specs.Pieces.{Piece, text}
 use Rattle.writing.specs.Layout.{mark, piece, name_piece, pieces, items, argument_pieces, arguments_pieces, call_pieces, calls_pieces, document_pieces}
@@ -81,19 +82,31 @@ place_after s ps = record { bytes = passed s.bytes (text ps); tokens = tallied s
 abbrev pub keeps_limits : Place → Bool
 keeps_limits s = leb s.bytes max_text && leb s.tokens max_tokens
 
--- The pieces of a part were put into the output, from one place to another: whatever follows them goes on from there.
-pub record Puts (part : List Piece → List Piece) (out out' : List ℕ) (s s' : Place) : Type 0 where
-  pub bytes : (r : List Piece) → stored out s.bytes (text (part r)) ≡ stored out' s'.bytes (text r)
-  pub place : (r : List Piece) → place_after s (part r) ≡ place_after s' r
+-- These bytes were stored from the writer's position on, in the output that it lends, and no token was counted.
+pub record Wrote (bs : List ℕ) (out out' : Writer) : Type 0 where
+  pub same : out'.out.ghost_name ≡ out.out.ghost_name
+  pub bytes : out'.out.now ≡ stored out.out.now out.place.bytes bs
+  pub end : out'.place.bytes ≡ passed out.place.bytes bs
+  pub tokens : out'.place.tokens ≡ out.place.tokens
+
+-- one token more is counted
+abbrev pub one_token : Writer → Writer
+one_token out = record { out = out.out; place = record { bytes = out.place.bytes; tokens = one_more out.place.tokens } }
+
+-- The pieces of a part were put into the output that the writer lends, from its place on: whatever follows them goes on from there.
+pub record Puts (part : List Piece → List Piece) (out out' : Writer) : Type 0 where
+  pub same : out'.out.ghost_name ≡ out.out.ghost_name
+  pub bytes : (r : List Piece) → stored out.out.now out.place.bytes (text (part r)) ≡ stored out'.out.now out'.place.bytes (text r)
+  pub place : (r : List Piece) → place_after out.place (part r) ≡ place_after out'.place r
 
 -- one piece of these bytes, whatever its kind
-abbrev pub PutsWord : List ℕ → List ℕ → List ℕ → Place → Place → Type 0
-PutsWord w out out' s s' = (k : ℕ) → Puts (λ r. piece k w ∷ r) out out' s s'
+abbrev pub PutsWord : List ℕ → Writer → Writer → Type 0
+PutsWord w out out' = (k : ℕ) → Puts (λ r. piece k w ∷ r) out out'
 
 -- The pieces of a part were put, or the writing was left at a place beyond the limits, where whatever text has these pieces is beyond them.
-pub data PutsWithin (part : List Piece → List Piece) (out out' : List ℕ) (s s' : Place) : Type 0 where
-  put : Puts part out out' s s' → PutsWithin part out out' s s'
-  over : keeps_limits s' ≡ false → ((r : List Piece) → keeps_limits (place_after s (part r)) ≡ false) → PutsWithin part out out' s s'
+pub data PutsWithin (part : List Piece → List Piece) (out out' : Writer) : Type 0 where
+  put : Puts part out out' → PutsWithin part out out'
+  over : keeps_limits out'.place ≡ false → ((r : List Piece) → keeps_limits (place_after out.place (part r)) ≡ false) → PutsWithin part out out'
 
 -- where the first byte is put
 abbrev pub start : Place
@@ -129,20 +142,19 @@ pub record AsLexed (k : ℕ) (w : List ℕ) : Type 0 where
   pub number : is_number k ≡ true → (in_range w (parts_of w) ≡ true) × (length w ≤ max_number)
   pub whole : k ≡ Kind.whole → AreDigits w
 
--- the class table is at hand, and every token of a table is as the lexer has it
-pub record Ranged (classes text table : List ℕ) (n : ℕ) : Type 0 where
-  pub classed : classes ≡ class_table
+-- every token of a table is as the lexer has it
+pub record Ranged (text table : List ℕ) (n : ℕ) : Type 0 where
   pub within : (i : ℕ) → i < n → AsLexed (kind_at table i) (token_at text table i).bytes
 
 -- the value of a leaf at a type, with a sign before it or without one
 abbrev pub leaf_at : Ty → Bool → Token → Option Val
 leaf_at u negative t = cond (eqb t.kind Kind.name) (name_at u t.bytes) (literal_at u negative t.kind t.bytes)
 
--- the leaf at place i was put at the type word `at`, and ends before place r .next
-abbrev pub PutsLeaf : List ℕ → List ℕ → ℕ → ℕ → Bool → ℕ → List ℕ → List ℕ → Place → Put → Type 0
-PutsLeaf text table n i negative at out out' s r =
+-- the leaf at place i was put at the type word `at`, and ends before place `next`
+abbrev pub PutsLeaf : List ℕ → List ℕ → ℕ → ℕ → Bool → ℕ → Writer → Writer → ℕ → Type 0
+PutsLeaf text table n i negative at out out' next =
     (u : Ty) (w : Val) → i < n → IsTypeName at u → leaf_at u negative (token_at text table i) ≡ some w
-    → Puts (pieces w) out out' s r.place × (r.next ≡ i + 1)
+    → Puts (pieces w) out out' × (next ≡ i + 1)
 
 -- how many tokens stand before that of a leaf that begins with the terminal c: a sign, or none
 abbrev pub signs_of : ℕ → ℕ
@@ -153,26 +165,26 @@ pub record Opens (ts : List Token) (c : ℕ) : Type 0 where
   pub seen : c ≡ lookahead ts
   pub bracket : (c ≡ left_square → ⊥) → c ≡ left_round
 
--- the value at place i, read at the base that begins ts under k pairs, was put; it ends before place r .next
-abbrev pub PutsValue : List ℕ → List ℕ → ℕ → ℕ → List Token → ℕ → List ℕ → List ℕ → Place → Put → Type 0
-PutsValue text table n i ts k out out' s r =
+-- the value at place i, read at the base that begins ts under k pairs, was put; it ends before place `next`
+abbrev pub PutsValue : List ℕ → List ℕ → ℕ → ℕ → List Token → ℕ → Writer → Writer → ℕ → Type 0
+PutsValue text table n i ts k out out' next =
     (m : Leaves) (b : ℕ) (v : Value) (us : List Token) (c : ℕ) (u : Ty) (ws : List Token) (w : Val) → Spells m b (toks text table n i) v us → IsBase c ts u ws
     → read_at v (stacked k u) ≡ some w
-    → Puts (pieces w) out out' s r.place × (us ≡ toks text table n r.next)
+    → Puts (pieces w) out out' × (us ≡ toks text table n next)
 
 -- the items of an array from place i on, and its closing bracket
-abbrev pub PutsArray : List ℕ → List ℕ → ℕ → ℕ → List Token → ℕ → List ℕ → List ℕ → Place → Put → Type 0
-PutsArray text table n i ts k out out' s r =
+abbrev pub PutsArray : List ℕ → List ℕ → ℕ → ℕ → List Token → ℕ → Writer → Writer → ℕ → Type 0
+PutsArray text table n i ts k out out' next =
     (m : Leaves) (b : ℕ) (vs : Values) (us : List Token) (c : ℕ) (u : Ty) (xs : List Token) (ws : Vals) → InArray m b (toks text table n i) vs us
     → IsBase c ts u xs → read_all vs (stacked k u) ≡ some ws
-    → Puts (λ r. items ws (mark (ascii "]") ∷ r)) out out' s r.place × (us ≡ toks text table n r.next)
+    → Puts (λ r. items ws (mark (ascii "]") ∷ r)) out out' × (us ≡ toks text table n next)
 
 -- the items of a tuple from place i on, and its closing bracket
-abbrev pub PutsTuple : List ℕ → List ℕ → ℕ → ℕ → List Token → List ℕ → List ℕ → Place → Put → Type 0
-PutsTuple text table n i ts out out' s r =
+abbrev pub PutsTuple : List ℕ → List ℕ → ℕ → ℕ → List Token → Writer → Writer → ℕ → Type 0
+PutsTuple text table n i ts out out' next =
     (m : Leaves) (b : ℕ) (vs : Values) (us : List Token) (c : ℕ) (cs : Tys) (xs : List Token) (ws : Vals) → Items m right_round b (toks text table n i) vs us
     → Columns 0 c ts cs xs → read_each vs cs ≡ some ws
-    → Puts (λ r. items ws (mark (ascii ")") ∷ r)) out out' s r.place × (us ≡ toks text table n r.next)
+    → Puts (λ r. items ws (mark (ascii ")") ∷ r)) out out' × (us ≡ toks text table n next)
 
 -- ---- patterns
 
@@ -221,43 +233,48 @@ pub record AimsAt (text table : List ℕ) (n : ℕ) (ps : List Param) (j : ℕ) 
   pub binds : (k : ℕ) (p : Param) → Nth k p ps → argument_for j k p (x ∷ []) ≡ cond (eqb a.number k) (some tree) nothing
 
 -- whatever argument stands at the walk's place, and whatever parameters the operation declares
-abbrev pub Aims : List ℕ → List ℕ → ℕ → List ℕ → List ℕ → List ℕ → ℕ → Operation → Walk → Aim → Type 0
-Aims dtext dtable dn ltext ltable words ln o w r =
-    (ps : List Param) (x : Arg) (us : List Token) → Declares ltext ltable words ln o ps → argument max_brackets (toks dtext dtable dn w.at) ≡ ok x us
-    → AimsAt dtext dtable dn ps w.index x us r
+abbrev pub Aims : Tokens → Callee → Walk → Aim → Type 0
+Aims doc c w r =
+    (ps : List Param) (x : Arg) (us : List Token) → Takes c ps
+    → argument max_brackets (from doc w.at) ≡ ok x us → AimsAt doc.text.now doc.table.now doc.count ps w.index x us r
 
 -- the arguments from place i on were bound in slots that were empty; the bracket at place r closes them
-abbrev pub BindsAll : List ℕ → List ℕ → ℕ → ℕ → List ℕ → List ℕ → List ℕ → ℕ → Operation → List ℕ → List ℕ → ℕ → Type 0
-BindsAll dtext dtable dn i ltext ltable words ln o slots slots' r =
-    (ps : List Param) (xs : List Arg) (us : List Token) → Declares ltext ltable words ln o ps
-    → row plain (commas right_round) (argument max_brackets) (toks dtext dtable dn i) ≡ ok xs us → ((k : ℕ) → get_or slots k 0 ≡ 0)
-    → Slotted dtext dtable dn ps xs slots' × (us ≡ toks dtext dtable dn (r + 1)) × (r < dn)
+abbrev pub BindsAll : Tokens → ℕ → Callee → List ℕ → List ℕ → ℕ → Type 0
+BindsAll doc i c slots slots' r =
+    (ps : List Param) (xs : List Arg) (us : List Token) → Takes c ps
+    → row plain (commas right_round) (argument max_brackets) (from doc i) ≡ ok xs us → ((k : ℕ) → get_or slots k 0 ≡ 0)
+    → Slotted doc.text.now doc.table.now doc.count ps xs slots' × (us ≡ from doc (r + 1)) × (r < doc.count)
 
--- the value of parameter j of the directory was put: the one at place v, or the default where v is 0
-abbrev pub PutsBound : List ℕ → List ℕ → ℕ → ℕ → List ℕ → List ℕ → List ℕ → ℕ → ℕ → List ℕ → List ℕ → Place → Place → Type 0
-PutsBound dtext dtable dn v ltext ltable words ln j out out' s r =
-    (p : Param) (o : Option Value) (w : Val) → ParameterAt ltext ltable words ln j p → ValueAt dtext dtable dn v o
-    → value_for (record { param = p; value = o }) ≡ some w → Puts (pieces w) out out' s r
+-- the record of the callee's parameter i is that of p
+abbrev pub Has : Callee → ℕ → Param → Type 0
+Has c i p = ParameterAt c.list.text.now c.list.table.now c.words.now c.list.count (c.operation.first + i) p
+
+-- the value of the callee's parameter i was put: the one at place v, or the default where v is 0
+abbrev pub PutsBound : Tokens → ℕ → Callee → ℕ → Writer → Writer → Type 0
+PutsBound doc v c i out out' =
+    (p : Param) (o : Option Value) (w : Val) → Has c i p
+    → ValueAt doc.text.now doc.table.now doc.count v o → value_for (record { param = p; value = o }) ≡ some w → Puts (pieces w) out out'
 
 -- and its name before it
-abbrev pub PutsArgument : List ℕ → List ℕ → ℕ → ℕ → List ℕ → List ℕ → List ℕ → ℕ → ℕ → List ℕ → List ℕ → Place → Place → Type 0
-PutsArgument dtext dtable dn v ltext ltable words ln j out out' s r =
-    (p : Param) (o : Option Value) (w : Val) → ParameterAt ltext ltable words ln j p → ValueAt dtext dtable dn v o
-    → value_for (record { param = p; value = o }) ≡ some w → Puts (argument_pieces p w) out out' s r
+abbrev pub PutsArgument : Tokens → ℕ → Callee → ℕ → Writer → Writer → Type 0
+PutsArgument doc v c i out out' =
+    (p : Param) (o : Option Value) (w : Val) → Has c i p
+    → ValueAt doc.text.now doc.table.now doc.count v o → value_for (record { param = p; value = o }) ≡ some w → Puts (argument_pieces p w) out out'
 
 -- the arguments of all parameters of an operation were put, whose values stand at these places
-abbrev pub PutsSlots : List ℕ → List ℕ → ℕ → List ℕ → List ℕ → List ℕ → List ℕ → ℕ → Operation → List ℕ → List ℕ → Place → Place → Type 0
-PutsSlots dtext dtable dn slots ltext ltable words ln o out out' s r =
-    (ps : List Param) (xs : List Arg) (vs : List Val) → Declares ltext ltable words ln o ps → Slotted dtext dtable dn ps xs slots → misplaced ps xs ≡ []
-    → values_for (Binding.slots ps xs) ≡ some vs → Puts (arguments_pieces ps vs) out out' s r
+abbrev pub PutsSlots : Tokens → List ℕ → Callee → Writer → Writer → Type 0
+PutsSlots doc slots c out out' =
+    (ps : List Param) (xs : List Arg) (vs : List Val) → Takes c ps
+    → Slotted doc.text.now doc.table.now doc.count ps xs slots → misplaced ps xs ≡ []
+    → values_for (Binding.slots ps xs) ≡ some vs → Puts (arguments_pieces ps vs) out out'
 
--- those of the arguments from place i on, which the bracket at place r .close closes
-abbrev pub PutsArguments : List ℕ → List ℕ → ℕ → ℕ → List ℕ → List ℕ → List ℕ → ℕ → Operation → List ℕ → List ℕ → Place → Arguments → Type 0
-PutsArguments dtext dtable dn i ltext ltable words ln o out out' s r =
-    (ps : List Param) (xs : List Arg) (us : List Token) (vs : List Val) → Declares ltext ltable words ln o ps
-    → row plain (commas right_round) (argument max_brackets) (toks dtext dtable dn i) ≡ ok xs us → misplaced ps xs ≡ []
+-- those of the arguments from place i on, which the bracket at place `close` closes
+abbrev pub PutsArguments : Tokens → ℕ → Callee → Writer → Writer → ℕ → Type 0
+PutsArguments doc i c out out' close =
+    (ps : List Param) (xs : List Arg) (us : List Token) (vs : List Val) → Takes c ps
+    → row plain (commas right_round) (argument max_brackets) (from doc i) ≡ ok xs us → misplaced ps xs ≡ []
     → values_for (Binding.slots ps xs) ≡ some vs
-    → Puts (arguments_pieces ps vs) out out' s r.place × (us ≡ toks dtext dtable dn (r.close + 1)) × (r.close < dn)
+    → Puts (arguments_pieces ps vs) out out' × (us ≡ from doc (close + 1)) × (close < doc.count)
 
 -- ---- calls
 
@@ -265,30 +282,30 @@ PutsArguments dtext dtable dn i ltext ltable words ln o out out' s r =
 pub record ReadableOps (words records : List ℕ) (n calls : ℕ) : Type 0 where
   pub named : (i : ℕ) → i < calls → Readable words n (get_or records (i * call_size) 0)
 
--- the call at place i, whose operation is number k of the directory, was put, and another may stand at place r .next
-abbrev pub PutsCall : List ℕ → List ℕ → List ℕ → ℕ → ℕ → List ℕ → List ℕ → ℕ → ℕ → List ℕ → List ℕ → Place → Step → Type 0
-PutsCall ltext ltable words ln k dtext dtable dn i out out' s r =
-    (hs : List Header) (h : Header) (c : Call) (us : List Token) (p : PlanCall) → OperationAt ltext ltable words ln k h → first (header_faults h) ≡ nothing
-    → find hs c.op ≡ some h → call max_brackets (toks dtext dtable dn i) ≡ ok c us → argument_faults hs c ≡ [] → plan_call hs c ≡ some p
-    → Puts (call_pieces hs p) out out' s r.place × (us ≡ toks dtext dtable dn r.next)
+-- the call at place i, whose operation is number k of the directory, was put, and another may stand at place `next`
+abbrev pub PutsCall : Tokens → List ℕ → ℕ → Tokens → ℕ → Writer → Writer → ℕ → Type 0
+PutsCall list words k doc i out out' next =
+    (hs : List Header) (h : Header) (c : Call) (us : List Token) (p : PlanCall) → OperationAt list.text.now list.table.now words list.count k h
+    → first (header_faults h) ≡ nothing → find hs c.op ≡ some h → call max_brackets (from doc i) ≡ ok c us → argument_faults hs c ≡ []
+    → plan_call hs c ≡ some p → Puts (call_pieces hs p) out out' × (us ≡ from doc next)
 
 -- the headers hs stand in the directory without faults, and the records of the calls cs name their operations
-pub record CallsRecorded (ltext ltable words records : List ℕ) (z : Sizes) (hs : List Header) (cs : List Call) : Type 0 where
-  pub operations : OperationsAt ltext ltable words z.list 0 hs
+pub record CallsRecorded (list : Tokens) (words records : List ℕ) (calls : ℕ) (hs : List Header) (cs : List Call) : Type 0 where
+  pub operations : OperationsAt list.text.now list.table.now words list.count 0 hs
   pub clean : first (list_faults hs) ≡ nothing
-  pub counted : z.calls ≡ length cs
+  pub counted : calls ≡ length cs
   pub called : Stored records 0 (flat_map (call_record hs) cs)
 
 -- the calls from place i on were put, up to the limits
-abbrev pub PutsCalls : List ℕ → List ℕ → List ℕ → List ℕ → List ℕ → List ℕ → Sizes → ℕ → List ℕ → List ℕ → Place → Place → Type 0
-PutsCalls ltext ltable words records dtext dtable z i out out' s r =
-    (hs : List Header) (cs : List Call) (us : List Token) (ps : List PlanCall) → CallsRecorded ltext ltable words records z hs cs
-    → Calls max_brackets (toks dtext dtable z.document i) cs us → flat_map (argument_faults hs) cs ≡ [] → plan_calls hs cs ≡ some ps
-    → PutsWithin (calls_pieces hs ps) out out' s r
+abbrev pub PutsCalls : Tokens → List ℕ → List ℕ → Tokens → ℕ → ℕ → Writer → Writer → Type 0
+PutsCalls list words records doc calls i out out' =
+    (hs : List Header) (cs : List Call) (us : List Token) (ps : List PlanCall) → CallsRecorded list words records calls hs cs
+    → Calls max_brackets (from doc i) cs us → flat_map (argument_faults hs) cs ≡ [] → plan_calls hs cs ≡ some ps
+    → PutsWithin (calls_pieces hs ps) out out'
 
 -- the whole document was put, up to the limits
-abbrev pub PutsDocument : List ℕ → List ℕ → List ℕ → List ℕ → List ℕ → List ℕ → Sizes → List ℕ → List ℕ → Place → Type 0
-PutsDocument ltext ltable words records dtext dtable z out out' r =
-    (hs : List Header) (d : Document) (p : Plan) → CallsRecorded ltext ltable words records z hs d.calls
-    → parse_document (toks dtext dtable z.document 0) ≡ ok d [] → document_faults hs d ≡ [] → plan_of hs d ≡ some p
+abbrev pub PutsDocument : Tokens → List ℕ → List ℕ → Tokens → ℕ → List ℕ → List ℕ → Place → Type 0
+PutsDocument list words records doc calls out out' r =
+    (hs : List Header) (d : Document) (p : Plan) → CallsRecorded list words records calls hs d.calls
+    → parse_document (from doc 0) ≡ ok d [] → document_faults hs d ≡ [] → plan_of hs d ≡ some p
     → PutsAll (document_pieces hs p) out out' r

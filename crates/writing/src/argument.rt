@@ -1,29 +1,18 @@
 // The arguments of a call, each with its parameter's name, in declared order. The call stands in the document's table, the parameters
-// of its operation in the directory of the list.
+// in its callee.
 ghost use Rattle.std.specs.Prelude.{◌≡◌, ◌+◌, ◌*◌, ◌<◌, ◌≤◌, min, length};
 ghost use Rattle.lexis.specs.Sizes.{max_tokens, max_parameters};
-ghost use Rattle.syntax.specs.Table.{Holds};
-ghost use Rattle.lists.specs.Directory.{first_parameter, parameter_words, parameter_word};
-ghost use Rattle.documents.specs.Tallies.{ParamsRecorded, NamesBelow};
 ghost use Rattle.writing.specs.Writing.{slot_set, Aims, BindsAll, Ranged, PutsBound, PutsArgument, PutsSlots, PutsArguments};
 
-use crate::place::{Place, put_mark, put_token};
 use crate::value::put_value;
-use documents::arguments::{is_guessed, search, value_end};
-use documents::operation::{Operation, code_of, default_of, name_of};
+use crate::writer::Writer;
+use documents::arguments::value_end;
+use documents::callee::Callee;
 use index::token::bytes_at;
 use lexis::limits::Limits;
 use lexis::symbol::Symbol;
 use lists::types::pairs_in;
-use syntax::list::is_label;
-use syntax::symbol::symbol_at;
-
-// A number as it is stored.
-pub fn wide(x: u16) -> usize
-    ensures { result ≡ x }
-{
-    x as usize
-}
+use syntax::tokens::Tokens;
 
 // A walk over the arguments of a call: the place of the next, how many stand before it, and the parameter after the one bound last.
 #[derive(Clone, Copy)]
@@ -41,34 +30,16 @@ pub struct Aim {
 }
 
 // What the argument at the walk's place is for.
-fn aim_of(
-    dtext: &[u8],
-    dtable: &[u32],
-    dn: usize,
-    ltext: &[u8],
-    ltable: &[u32],
-    ln: usize,
-    words: &[u32],
-    o: Operation,
-    w: Walk,
-) -> Aim
-    requires holds { Holds dtext.now dtable.now dn }
-    requires holds_2 { Holds ltext.now ltable.now ln }
-    requires params_recorded { ParamsRecorded words.now o }
-    requires names_below { NamesBelow words.now ln o }
-    requires at_le_dn { w.at ≤ dn }
-    ensures range { (w.at ≤ result.value) × (result.value ≤ dn + 1) × (result.number ≤ w.index + o.count) }
-    ensures meaning { Aims dtext.now dtable.now dn ltext.now ltable.now words.now ln o w result }
+fn aim_of(doc: &Tokens<'_>, callee: &Callee<'_>, w: Walk) -> Aim
+    requires at_le_dn { w.at ≤ doc.now.count }
+    ensures range { (w.at ≤ result.value) × (result.value ≤ doc.now.count + 1) × (result.number ≤ w.index + callee.now.operation.count) }
+    ensures meaning { Aims doc.now callee.now w result }
 {
-    if is_label(dtext, dtable, dn, w.at) {
-        let name = bytes_at(dtext, dtable, dn, w.at);
-        let p = if is_guessed(ltext, ltable, ln, words, o, name, w.guess) {
-            w.guess
-        } else {
-            search(ltext, ltable, ln, words, o, name)
-        };
+    if doc.is_label(w.at) {
+        let name = bytes_at(doc, w.at);
+        let p = callee.number_of(name, w.guess);
         return Aim {
-            number: p,
+            number: p.unwrap_or(callee.operation.count),
             value: w.at + 2,
         };
     }
@@ -78,50 +49,33 @@ fn aim_of(
     }
 }
 
-// Stores the place v for parameter p, if it is one of `count` and has none.
+// Stores the place v for parameter p, if it is one of `count` and has none, which is 0: no value stands at place 0, and two bytes hold a place.
 fn bind(slots: &mut [u16], count: usize, p: usize, v: usize)
     requires { (count ≤ length slots.old) × (v < 65536) }
     ensures { slots.new ≡ slot_set slots.old count p v }
 {
-    if p < count {
-        if slots[p] == 0 {
-            slots[p] = v as u16;
-        }
+    if p < count && slots[p] == 0 {
+        slots[p] = v as u16;
     }
 }
 
 // Stores for each parameter the place of the value that the arguments from place `at` on bind to it, and gives the place of the bracket that closes them.
-fn bind_all(
-    slots: &mut [u16],
-    dtext: &[u8],
-    dtable: &[u32],
-    dn: usize,
-    at: usize,
-    ltext: &[u8],
-    ltable: &[u32],
-    ln: usize,
-    words: &[u32],
-    o: Operation,
-) -> usize
-    requires holds { Holds dtext.now dtable.now dn }
-    requires holds_2 { Holds ltext.now ltable.now ln }
-    requires params_recorded { ParamsRecorded words.now o }
-    requires names_below { NamesBelow words.now ln o }
-    requires at_nonzero { (0 < at) × (at ≤ dn) × (dn ≤ max_tokens) × (max_parameters ≤ length slots.old) }
-    ensures range { (min (at + 1) dn ≤ result) × (result ≤ dn) }
-    ensures meaning { BindsAll dtext.now dtable.now dn at ltext.now ltable.now words.now ln o
-        slots.old slots.new result }
+fn bind_all(slots: &mut [u16], doc: &Tokens<'_>, at: usize, callee: &Callee<'_>) -> usize
+    requires at_nonzero { (0 < at) × (at ≤ doc.now.count) × (doc.now.count ≤ max_tokens) × (max_parameters ≤ length slots.old) }
+    ensures range { (min (at + 1) doc.now.count ≤ result) × (result ≤ doc.now.count) }
+    ensures meaning { BindsAll doc.now at callee.now slots.old slots.new result }
 {
     let mut w = Walk {
         at: at,
         index: 0,
         guess: 0,
     };
+    // No `for`: the tokens say where the arguments end.
     loop {
-        let a = aim_of(dtext, dtable, dn, ltext, ltable, ln, words, o, w);
-        bind(&mut *slots, o.count, a.number, a.value);
-        let end = value_end(dtext, dtable, dn, a.value);
-        if symbol_at(dtext, dtable, dn, end) != Symbol::COMMA {
+        let a = aim_of(doc, callee, w);
+        bind(&mut *slots, callee.operation.count, a.number, a.value);
+        let end = value_end(doc, a.value);
+        if doc.symbol_at(end) != Symbol::COMMA {
             return end;
         }
         w = Walk {
@@ -132,167 +86,74 @@ fn bind_all(
     }
 }
 
-// Puts the value of parameter j of the directory: the one at place v of the document, or the default where v is 0.
-fn put_bound(
-    out: &mut [u8],
-    s: Place,
-    classes: &[u8; 256],
-    dtext: &[u8],
-    dtable: &[u32],
-    dn: usize,
-    v: usize,
-    ltext: &[u8],
-    ltable: &[u32],
-    ln: usize,
-    words: &[u32],
-    j: usize,
-) -> Place
-    requires holds { Holds dtext.now dtable.now dn }
-    requires ranged { Ranged classes.now dtext.now dtable.now dn }
-    requires holds_2 { Holds ltext.now ltable.now ln }
-    requires ranged_2 { Ranged classes.now ltext.now ltable.now ln }
-    requires parameter_words_in_bounds { (first_parameter + j * parameter_words + 2 < length words.now) × (parameter_word words.now j 0 < ln) }
-    ensures { PutsBound dtext.now dtable.now dn v ltext.now ltable.now words.now ln j
-        out.old out.new s result }
+// Puts the value of parameter i of the callee: the one at place v of the document, or the default where v is 0.
+fn put_bound<'t>(out: &mut Writer<'_>, doc: &Tokens<'t>, v: usize, callee: &Callee<'t>, i: usize)
+    requires ranged { Ranged doc.now.text.now doc.now.table.now doc.now.count }
+    requires ranged_2 { Ranged callee.now.list.text.now callee.now.list.table.now callee.now.list.count }
+    requires i_lt_count { i < callee.now.operation.count }
+    ensures { PutsBound doc.now v callee.now i out.old out.new }
 {
-    let t = name_of(words, j) + 2;
-    let k = pairs_in(code_of(words, j));
-    if v == 0 {
-        let d = default_of(words, j);
-        return put_value(
-            out, s, classes, ltext, ltable, ln, d, ltext, ltable, ln, t, k,
-        );
+    let t = callee.name_of(i) + 2;
+    let k = pairs_in(callee.code_of(i));
+    if v != 0 {
+        return put_value(out, doc, v, &callee.list, t, k);
     }
-    put_value(
-        out, s, classes, dtext, dtable, dn, v, ltext, ltable, ln, t, k,
-    )
+    if let Some(d) = callee.default_of(i) {
+        put_value(out, &callee.list, d, &callee.list, t, k);
+    }
 }
 
-// Puts the argument of parameter j of the directory, which is bound to the value at place v, or to its default where v is 0.
-fn put_argument(
-    out: &mut [u8],
-    s: Place,
-    classes: &[u8; 256],
-    dtext: &[u8],
-    dtable: &[u32],
-    dn: usize,
-    v: usize,
-    ltext: &[u8],
-    ltable: &[u32],
-    ln: usize,
-    words: &[u32],
-    j: usize,
-) -> Place
-    requires holds { Holds dtext.now dtable.now dn }
-    requires ranged { Ranged classes.now dtext.now dtable.now dn }
-    requires holds_2 { Holds ltext.now ltable.now ln }
-    requires ranged_2 { Ranged classes.now ltext.now ltable.now ln }
-    requires parameter_words_in_bounds { (first_parameter + j * parameter_words + 2 < length words.now) × (parameter_word words.now j 0 < ln) }
-    ensures { PutsArgument dtext.now dtable.now dn v ltext.now ltable.now words.now ln j
-        out.old out.new s result }
+// Puts the argument of parameter i of the callee, which is bound to the value at place v, or to its default where v is 0.
+fn put_argument(out: &mut Writer<'_>, doc: &Tokens<'_>, v: usize, callee: &Callee<'_>, i: usize)
+    requires ranged { Ranged doc.now.text.now doc.now.table.now doc.now.count }
+    requires ranged_2 { Ranged callee.now.list.text.now callee.now.list.table.now callee.now.list.count }
+    requires i_lt_count { i < callee.now.operation.count }
+    ensures { PutsArgument doc.now v callee.now i out.old out.new }
 {
-    let name = put_token(&mut *out, s, ltext, ltable, ln, name_of(words, j));
-    let equal = put_mark(&mut *out, name, b'=');
-    put_bound(
-        out, equal, classes, dtext, dtable, dn, v, ltext, ltable, ln, words, j,
-    )
+    out.put_token(&callee.list, callee.name_of(i));
+    out.put_mark(b'=');
+    put_bound(out, doc, v, callee, i);
 }
 
 // Puts the arguments of all parameters of an operation, whose values stand at these places.
-fn put_slots(
-    out: &mut [u8],
-    s: Place,
-    classes: &[u8; 256],
-    slots: &[u16],
-    dtext: &[u8],
-    dtable: &[u32],
-    dn: usize,
-    ltext: &[u8],
-    ltable: &[u32],
-    ln: usize,
-    words: &[u32],
-    o: Operation,
-) -> Place
-    requires holds { Holds dtext.now dtable.now dn }
-    requires ranged { Ranged classes.now dtext.now dtable.now dn }
-    requires holds_2 { Holds ltext.now ltable.now ln }
-    requires ranged_2 { Ranged classes.now ltext.now ltable.now ln }
-    requires params_recorded { ParamsRecorded words.now o }
-    requires names_below { NamesBelow words.now ln o }
+fn put_slots(out: &mut Writer<'_>, slots: &[u16], doc: &Tokens<'_>, callee: &Callee<'_>)
+    requires ranged { Ranged doc.now.text.now doc.now.table.now doc.now.count }
+    requires ranged_2 { Ranged callee.now.list.text.now callee.now.list.table.now callee.now.list.count }
     requires max_parameters_in_bounds { max_parameters ≤ length slots.now }
-    ensures { PutsSlots dtext.now dtable.now dn slots.now ltext.now ltable.now
-        words.now ln o out.old out.new s result }
+    ensures { PutsSlots doc.now slots.now callee.now out.old out.new }
 {
-    if o.count == 0 {
-        return s;
+    if callee.operation.count == 0 {
+        return;
     }
-    let mut place = s;
+    // No `for`: the comma stands between two arguments, and the loop ends behind the last one, before it.
     let mut i = 0;
     loop {
-        place = put_argument(
-            &mut *out,
-            place,
-            classes,
-            dtext,
-            dtable,
-            dn,
-            wide(slots[i]),
-            ltext,
-            ltable,
-            ln,
-            words,
-            o.first + i,
-        );
+        put_argument(out, doc, slots[i] as usize, callee, i);
         i += 1;
-        if o.count <= i {
-            return place;
+        if callee.operation.count <= i {
+            return;
         }
-        place = put_mark(&mut *out, place, b',');
+        out.put_mark(b',');
     }
 }
 
-// What was put, and the place of the bracket that closes the arguments.
-#[derive(Clone, Copy)]
-pub struct Arguments {
-    pub place: Place,
-    pub close: usize,
-}
-
-// Puts the arguments of a call, which stand from place `at` on, for all parameters of its operation.
+// Puts the arguments of a call, which stand from place `at` on, for all parameters of its operation, and gives the place of the bracket that
+// closes them.
 pub fn put_arguments(
-    out: &mut [u8],
-    s: Place,
-    classes: &[u8; 256],
-    dtext: &[u8],
-    dtable: &[u32],
-    dn: usize,
+    out: &mut Writer<'_>,
+    doc: &Tokens<'_>,
     at: usize,
-    ltext: &[u8],
-    ltable: &[u32],
-    ln: usize,
-    words: &[u32],
-    o: Operation,
-) -> Arguments
-    requires holds { Holds dtext.now dtable.now dn }
-    requires ranged { Ranged classes.now dtext.now dtable.now dn }
-    requires holds_2 { Holds ltext.now ltable.now ln }
-    requires ranged_2 { Ranged classes.now ltext.now ltable.now ln }
-    requires params_recorded { ParamsRecorded words.now o }
-    requires names_below { NamesBelow words.now ln o }
-    requires at_nonzero { (0 < at) × (at ≤ dn) × (dn ≤ max_tokens) }
-    ensures range { (min (at + 1) dn ≤ result.close) × (result.close ≤ dn) }
-    ensures meaning { PutsArguments dtext.now dtable.now dn at ltext.now ltable.now words.now ln o
-        out.old out.new s result }
+    callee: &Callee<'_>,
+) -> usize
+    requires ranged { Ranged doc.now.text.now doc.now.table.now doc.now.count }
+    requires ranged_2 { Ranged callee.now.list.text.now callee.now.list.table.now callee.now.list.count }
+    requires at_nonzero { (0 < at) × (at ≤ doc.now.count) × (doc.now.count ≤ max_tokens) }
+    ensures range { (min (at + 1) doc.now.count ≤ result) × (result ≤ doc.now.count) }
+    ensures meaning { PutsArguments doc.now at callee.now out.old out.new result }
 {
+    // An array on the stack: no heap, fixed memory.
     let mut slots = [0u16; Limits::PARAMETERS];
-    let close = bind_all(
-        &mut slots, dtext, dtable, dn, at, ltext, ltable, ln, words, o,
-    );
-    let place = put_slots(
-        out, s, classes, &slots, dtext, dtable, dn, ltext, ltable, ln, words, o,
-    );
-    Arguments {
-        place: place,
-        close: close,
-    }
+    let close = bind_all(&mut slots, doc, at, callee);
+    put_slots(out, &slots, doc, callee);
+    close
 }

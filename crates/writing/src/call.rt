@@ -2,98 +2,60 @@
 ghost use Rattle.std.specs.Prelude.{◌≡◌, ◌∷◌, ◌*◌, ◌<◌, ◌≤◌, length, get_or};
 ghost use Rattle.lexis.specs.Ascii.{ascii};
 ghost use Rattle.lexis.specs.Sizes.{max_tokens, max_calls};
-ghost use Rattle.syntax.specs.Table.{token_at, Holds};
+ghost use Rattle.syntax.specs.Table.{token_at};
 ghost use Rattle.documents.specs.Judged.{Readable};
 ghost use Rattle.documents.specs.Records.{call_size, records_words};
 ghost use Rattle.writing.specs.Layout.{name_piece, mark};
 ghost use Rattle.writing.specs.Writing.{Puts, Ranged, ReadableOps, PutsCall, PutsCalls};
 
-use crate::argument::{put_arguments, wide};
+use crate::argument::put_arguments;
 use crate::pattern::put_left;
-use crate::place::{Place, keeps_limits, put_mark, put_spaced, put_token};
+use crate::place::keeps_limits;
+use crate::writer::Writer;
 use documents::calls::{after_call, find};
-use documents::operation::operation_at;
+use documents::operation::callee_at;
 use documents::records::Records;
-use documents::stages::Sizes;
 use lexis::symbol::Symbol;
+use syntax::tokens::Tokens;
 
 // Puts an equals sign, the name at place `name` and an opening bracket.
-fn put_operation(
-    out: &mut [u8],
-    s: Place,
-    text: &[u8],
-    table: &[u32],
-    n: usize,
-    name: usize,
-) -> Place
-    requires holds { Holds text.now table.now n }
-    requires name_lt_n { name < n }
+fn put_operation(out: &mut Writer<'_>, tokens: &Tokens<'_>, name: usize)
+    requires { name < tokens.now.count }
     ensures { Puts
-        (λ q. mark (ascii "=") ∷ name_piece (token_at text.now table.now name).bytes
-        ∷ mark (ascii "(") ∷ q) out.old out.new s result }
+        (λ q. mark (ascii "=") ∷ name_piece (token_at tokens.now.text.now tokens.now.table.now name).bytes
+        ∷ mark (ascii "(") ∷ q) out.old out.new }
 {
-    let equal = put_mark(&mut *out, s, b'=');
-    let named = put_token(&mut *out, equal, text, table, n, name);
-    put_mark(out, named, b'(')
+    out.put_mark(b'=');
+    out.put_token(tokens, name);
+    out.put_mark(b'(');
 }
 
-// What was put, and the place of the next call.
-#[derive(Clone, Copy)]
-pub struct Step {
-    pub place: Place,
-    pub next: usize,
-}
-
-// Puts the call at place `at`, whose operation is number k of the directory.
+// Puts the call at place `at`, whose operation is number k of the directory, and gives the place of the next call.
 fn put_call(
-    out: &mut [u8],
-    s: Place,
-    classes: &[u8; 256],
-    ltext: &[u8],
-    ltable: &[u32],
-    ln: usize,
+    out: &mut Writer<'_>,
+    list: &Tokens<'_>,
     words: &[u32],
     k: usize,
-    dtext: &[u8],
-    dtable: &[u32],
-    dn: usize,
+    doc: &Tokens<'_>,
     at: usize,
-) -> Step
-    requires holds { Holds ltext.now ltable.now ln }
-    requires ranged { Ranged classes.now ltext.now ltable.now ln }
-    requires readable { Readable words.now ln k }
-    requires holds_2 { Holds dtext.now dtable.now dn }
-    requires ranged_2 { Ranged classes.now dtext.now dtable.now dn }
-    requires dn_le_max_tokens { dn ≤ max_tokens }
-    ensures { PutsCall ltext.now ltable.now words.now ln k dtext.now dtable.now dn at
-        out.old out.new s result }
+) -> usize
+    requires ranged { Ranged list.now.text.now list.now.table.now list.now.count }
+    requires readable { Readable words.now list.now.count k }
+    requires ranged_2 { Ranged doc.now.text.now doc.now.table.now doc.now.count }
+    requires dn_le_max_tokens { doc.now.count ≤ max_tokens }
+    ensures { PutsCall list.now words.now k doc.now at out.old out.new result }
 {
-    let equal = find(dtext, dtable, dn, at, Symbol::EQUAL);
-    if dn <= equal + 3 {
-        return Step { place: s, next: dn };
+    let equal = find(doc, at, Symbol::EQUAL);
+    if doc.count <= equal + 3 {
+        return doc.count;
     }
-    let o = operation_at(words, k);
-    let left = put_left(&mut *out, s, dtext, dtable, dn, at, equal);
-    let open = put_operation(&mut *out, left, dtext, dtable, dn, equal + 1);
-    let all = put_arguments(
-        &mut *out,
-        open,
-        classes,
-        dtext,
-        dtable,
-        dn,
-        equal + 3,
-        ltext,
-        ltable,
-        ln,
-        words,
-        o,
-    );
-    let close = put_mark(&mut *out, all.place, b')');
-    Step {
-        place: put_spaced(out, close, b";", 10),
-        next: after_call(dtext, dtable, dn, all.close),
-    }
+    let callee = callee_at(list, words, k);
+    put_left(out, doc, at, equal);
+    put_operation(out, doc, equal + 1);
+    let close = put_arguments(out, doc, equal + 3, &callee);
+    out.put_mark(b')');
+    out.put_spaced(b";", 10);
+    after_call(doc, close)
 }
 
 // The number of the operation of call i.
@@ -101,56 +63,31 @@ fn operation_of(records: &[u16], i: usize) -> usize
     requires { (i < max_calls) × (records_words ≤ length records.now) }
     ensures { result ≡ get_or records.now (i * call_size) 0 }
 {
-    wide(records[i * Records::CALL])
+    records[i * Records::CALL] as usize
 }
 
-// Puts the calls from place `body` on, whose records stand in front of `records`, and stops beyond the limits: what has passed them is never written.
+// Puts so many calls from place `body` on, whose records stand in front of `records`, and stops beyond the limits: what has passed them is never
+// written.
 pub fn put_calls(
-    out: &mut [u8],
-    s: Place,
-    classes: &[u8; 256],
-    ltext: &[u8],
-    ltable: &[u32],
+    out: &mut Writer<'_>,
+    list: &Tokens<'_>,
     words: &[u32],
     records: &[u16],
-    dtext: &[u8],
-    dtable: &[u32],
-    z: Sizes,
+    doc: &Tokens<'_>,
+    calls: usize,
     body: usize,
-) -> Place
-    requires holds { Holds ltext.now ltable.now z.list }
-    requires ranged { Ranged classes.now ltext.now ltable.now z.list }
-    requires readable_ops { ReadableOps words.now records.now z.list z.calls }
-    requires holds_2 { Holds dtext.now dtable.now z.document }
-    requires ranged_2 { Ranged classes.now dtext.now dtable.now z.document }
-    requires calls_le_max_calls { (z.calls ≤ max_calls) × (records_words ≤ length records.now) × (z.document ≤ max_tokens) }
-    ensures { PutsCalls ltext.now ltable.now words.now records.now dtext.now dtable.now
-        z body out.old out.new s result }
+)
+    requires ranged { Ranged list.now.text.now list.now.table.now list.now.count }
+    requires readable_ops { ReadableOps words.now records.now list.now.count calls }
+    requires ranged_2 { Ranged doc.now.text.now doc.now.table.now doc.now.count }
+    requires calls_le_max_calls { (calls ≤ max_calls) × (records_words ≤ length records.now) × (doc.now.count ≤ max_tokens) }
+    ensures { PutsCalls list.now words.now records.now doc.now calls body out.old out.new }
 {
-    let mut place = s;
     let mut at = body;
-    let mut i = 0;
-    while i < z.calls {
-        if !keeps_limits(place) {
-            return place;
+    for i in 0..calls {
+        if !keeps_limits(out.place) {
+            return;
         }
-        let step = put_call(
-            &mut *out,
-            place,
-            classes,
-            ltext,
-            ltable,
-            z.list,
-            words,
-            operation_of(records, i),
-            dtext,
-            dtable,
-            z.document,
-            at,
-        );
-        place = step.place;
-        at = step.next;
-        i += 1;
+        at = put_call(out, list, words, operation_of(records, i), doc, at);
     }
-    place
 }

@@ -8,4 +8,4 @@ mod pattern;
 pub mod place;
 pub mod spelling;
 mod value;
-mod writer;
+pub mod writer;

@@ -7,118 +7,92 @@ ghost use Rattle.lexis.specs.Symbol.{a_name, right_round};
 ghost use Rattle.syntax.specs.Tree.{Value, Ty};
 ghost use Rattle.syntax.specs.Parser.{expect, row, plain, commas, left};
 ghost use Rattle.syntax.specs.Parser.Parse.{ok};
-ghost use Rattle.syntax.specs.Table.{token_at, toks, Holds};
+ghost use Rattle.syntax.specs.Table.{token_at, toks};
+ghost use Rattle.syntax.specs.Tokens.{from};
 ghost use Rattle.lists.specs.Reading.{Val, read_at};
 ghost use Rattle.writing.specs.Plan.{spellings};
 ghost use Rattle.writing.specs.Layout.{names_pieces, left_pieces};
 ghost use Rattle.writing.specs.Writing.{Puts, pattern_piece, pattern_pieces, is_bracketed};
 
-use crate::place::{Place, put_mark, put_token};
+use crate::writer::Writer;
 use lexis::limits::Limits;
 use lexis::symbol::Symbol;
-use syntax::Parsed;
-use syntax::symbol::symbol_at;
-use syntax::value::{Leaves, value};
+use syntax::tokens::Tokens;
+use syntax::value::Leaves;
 
 // Puts the names in a row at place `at`, up to its closing bracket.
-pub fn put_names(out: &mut [u8], s: Place, text: &[u8], table: &[u32], n: usize, at: usize) -> Place
-    requires { Holds text.now table.now n }
-    ensures { (ts : List Token) (us : List Token) → row plain (commas right_round) (expect a_name) (toks text.now table.now n at) ≡ ok ts us
-        → Puts (names_pieces (spellings ts)) out.old out.new s result }
+pub fn put_names(out: &mut Writer<'_>, tokens: &Tokens<'_>, at: usize)
+    ensures { (ts : List Token) (us : List Token) → row plain (commas right_round) (expect a_name) (from tokens.now at) ≡ ok ts us
+        → Puts (names_pieces (spellings ts)) out.old out.new }
 {
-    let mut place = s;
+    // No `for`: each turn passes a name and a comma, and the row ends where no comma follows.
     let mut i = at;
-    while i < n {
-        place = put_token(&mut *out, place, text, table, n, i);
-        if symbol_at(text, table, n, i + 1) != Symbol::COMMA {
-            return place;
+    while i < tokens.count {
+        out.put_token(tokens, i);
+        if tokens.symbol_at(i + 1) != Symbol::COMMA {
+            return;
         }
-        place = put_mark(&mut *out, place, b',');
+        out.put_mark(b',');
         i += 2;
     }
-    place
 }
 
 // Puts the token at place i of a pattern: a bracket, a comma, or a name as it is spelt.
-fn put_part(out: &mut [u8], s: Place, text: &[u8], table: &[u32], n: usize, i: usize) -> Place
-    requires holds { Holds text.now table.now n }
-    requires i_lt_n { i < n }
-    ensures { Puts (λ q. pattern_piece (token_at text.now table.now i) ∷ q) out.old out.new s result }
+fn put_part(out: &mut Writer<'_>, tokens: &Tokens<'_>, i: usize)
+    requires { i < tokens.now.count }
+    ensures { Puts (λ q. pattern_piece (token_at tokens.now.text.now tokens.now.table.now i) ∷ q) out.old out.new }
 {
-    let c = symbol_at(text, table, n, i);
+    let c = tokens.symbol_at(i);
     if c == Symbol::COMMA {
-        return put_mark(out, s, b',');
+        return out.put_mark(b',');
     }
     if c == Symbol::LEFT_SQUARE {
-        return put_mark(out, s, b'[');
+        return out.put_mark(b'[');
     }
     if c == Symbol::RIGHT_SQUARE {
-        return put_mark(out, s, b']');
+        return out.put_mark(b']');
     }
     if c == Symbol::LEFT_ROUND {
-        return put_mark(out, s, b'(');
+        return out.put_mark(b'(');
     }
     if c == Symbol::RIGHT_ROUND {
-        return put_mark(out, s, b')');
+        return out.put_mark(b')');
     }
-    put_token(out, s, text, table, n, i)
+    out.put_token(tokens, i);
 }
 
 // Puts the tokens of a pattern from place `from` up to place `to`.
-fn put_parts(
-    out: &mut [u8],
-    s: Place,
-    text: &[u8],
-    table: &[u32],
-    n: usize,
-    from: usize,
-    to: usize,
-) -> Place
-    requires holds { Holds text.now table.now n }
-    requires to_le_n { to ≤ n }
-    ensures { Puts (pattern_pieces (toks text.now table.now to from)) out.old out.new s result }
+fn put_parts(out: &mut Writer<'_>, tokens: &Tokens<'_>, from: usize, to: usize)
+    requires { to ≤ tokens.now.count }
+    ensures { Puts (pattern_pieces (toks tokens.now.text.now tokens.now.table.now to from)) out.old out.new }
 {
-    let mut place = s;
-    let mut i = from;
-    while i < to {
-        place = put_part(&mut *out, place, text, table, n, i);
-        i += 1;
+    for i in from..to {
+        put_part(out, tokens, i);
     }
-    place
 }
 
 // Whether the left side from place `at` up to its equals sign is a tuple in brackets.
-fn is_bracketed(text: &[u8], table: &[u32], n: usize, at: usize, equal: usize) -> bool
-    requires { Holds text.now table.now n }
-    ensures { result ≡ is_bracketed text.now table.now n at equal }
+fn is_bracketed(tokens: &Tokens<'_>, at: usize, equal: usize) -> bool
+    ensures { result ≡ is_bracketed tokens.now.text.now tokens.now.table.now tokens.now.count at equal }
 {
-    if symbol_at(text, table, n, at) != Symbol::LEFT_ROUND {
+    if tokens.symbol_at(at) != Symbol::LEFT_ROUND {
         return false;
     }
-    match value(text, table, n, at, Leaves::Names, Limits::BRACKETS) {
-        Parsed::Done(next) => next == equal,
-        Parsed::Fault { code, at } => false,
+    match tokens.value(at, Leaves::Names, Limits::BRACKETS) {
+        Ok(next) => next == equal,
+        Err(_) => false,
     }
 }
 
 // Puts the left side from place `at` up to its equals sign; the brackets of a top tuple are left out.
-pub fn put_left(
-    out: &mut [u8],
-    s: Place,
-    text: &[u8],
-    table: &[u32],
-    n: usize,
-    at: usize,
-    equal: usize,
-) -> Place
-    requires holds { Holds text.now table.now n }
-    requires equal_lt_n { equal < n }
-    ensures { (v : Value) (us : List Token) (u : Ty) (w : Val) → left max_brackets (toks text.now table.now n at) ≡ ok v us
-        → us ≡ toks text.now table.now n (equal + 1) →
-        read_at v u ≡ some w → Puts (left_pieces w) out.old out.new s result }
+pub fn put_left(out: &mut Writer<'_>, tokens: &Tokens<'_>, at: usize, equal: usize)
+    requires { equal < tokens.now.count }
+    ensures { (v : Value) (us : List Token) (u : Ty) (w : Val) → left max_brackets (from tokens.now at) ≡ ok v us
+        → us ≡ from tokens.now (equal + 1) → read_at v u ≡ some w
+        → Puts (left_pieces w) out.old out.new }
 {
-    if is_bracketed(text, table, n, at, equal) {
-        return put_parts(out, s, text, table, n, at + 1, equal - 1);
+    if is_bracketed(tokens, at, equal) {
+        return put_parts(out, tokens, at + 1, equal - 1);
     }
-    put_parts(out, s, text, table, n, at, equal)
+    put_parts(out, tokens, at, equal);
 }

@@ -9,7 +9,7 @@ use Rattle.canonical.proofs.canon.Goals as goal
 
 pub returns-then-not-areas_serve : goal.returns-then-not-areas_serve
 returns-then-not-areas_serve c = let p = refused-room c.args.list.now c.args.doc.now c.args.work1.now c.args.work2.now c.args.out.now
-    (sym c.areas_serve.ensures ∙ c.if-not-areas_serve.true) c.no_text.ensures in record { value = p.0; out_after = p.1.0; work1_after = p.1.1.0; work2_after = p.1.1.1 }
+    (sym c.areas_serve.ensures ∙ c.if-not-areas_serve.true) c.short_room.ensures in record { value = p.0; out_after = p.1.0; work1_after = p.1.1.0; work2_after = p.1.1.1 }
 
 pub returns-then-not-text_fits : goal.returns-then-not-text_fits
 returns-then-not-text_fits c = let p = refused-list c.args.list.now c.args.doc.now c.args.work1.now c.args.work2.now c.args.out.now

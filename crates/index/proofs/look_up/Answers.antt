@@ -1,14 +1,16 @@
-use native.Mathlib.Omega.{arith}
+use mathlib.Core.Path.{refl, ap, ◌∙◌}
+use Prim.Native.Nat.{◌+◌}
+use Rattle.index.specs.Layout.{word_in}
 use Rattle.index.proofs.Steps.{looked-none, looked-there}
 use Rattle.index.proofs.look_up.Goals as goal
 
-pub returns-then-found-eq0 : goal.returns-then-found-eq0
-returns-then-found-eq0 c = looked-none c.args.text.now c.args.table.now c.args.index.now c.args.w.now c.args.field c.find-found.result c.requires.field_lt_name_words c.find-found.ensures.finds
-    c.if-found-eq0.true
+pub returns-in_err-p-clause-looks_up : goal.returns-in_err-p-clause-looks_up
+returns-in_err-p-clause-looks_up c = let ts = c.args.tokens.now in
+    λ k f m. ap word_in c.from_residual.ensures
+    ∙ looked-none ts.text.now ts.table.now c.args.index.now c.args.w.now c.args.field 0 c.requires.field_lt_name_words c.in_err-p.ensures.finds refl k f m
 
-pub word_of-requires : goal.word_of-requires
-word_of-requires c = omega (arith, c.requires.field_lt_name_words, c.requires.walkable.falling.room, c.find-found.ensures.upper_bound)
-
-pub returns : goal.returns
-returns c = looked-there c.args.text.now c.args.table.now c.args.index.now c.args.w.now c.args.field c.find-found.result c.requires.field_lt_name_words c.find-found.ensures.finds
-    c.if-found-eq0.false c.word_of.result c.word_of.ensures
+pub returns-clause-looks_up : goal.returns-clause-looks_up
+returns-clause-looks_up c = let ts = c.args.tokens.now in
+    λ k f m. c.given.ensures.value
+    ∙ looked-there ts.text.now ts.table.now c.args.index.now c.args.w.now c.args.field (c.in_ok-p.p + 1) c.requires.field_lt_name_words
+    c.in_ok-p.ensures.finds c.in_ok-p.p refl c.word_of.result c.word_of.ensures k f m

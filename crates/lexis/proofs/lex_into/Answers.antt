@@ -14,7 +14,6 @@ put_record-requires c = let s = told c.args.text.now c.loop-r.c _ _ c.next.ensur
 pub mark-requires : goal.mark-requires
 mark-requires c = let s = told c.args.text.now c.loop-r.c _ _ c.next.ensures c.in-Next.is in
     record {
-      kind = s.kinded;
       start_lt_end = s.some;
       end_in_bounds = s.inside;
       i_in_bounds = mark-room _ _ _ _ _ c.loop-r.invariant _ _ _ s c.requires.text_in_bounds
@@ -49,7 +48,7 @@ loop-r-smaller-in-Mark c = let s = told c.args.text.now c.loop-r.c _ _ c.next.en
 pub loop-r-preserved-in-Mark : goal.loop-r-preserved-in-Mark
 loop-r-preserved-in-Mark c = let s = told c.args.text.now c.loop-r.c _ _ c.next.ensures c.in-Mark.is in
     lexing-mark _ _ _ _ _ c.loop-r.invariant _ _ _ _ s
-    c.put_record-in-Mark.ensures c.wide.ensures
+    c.put_record-in-Mark.ensures c.from.ensures
     c.put_mark.ensures
 
 pub loop-r-smaller : goal.loop-r-smaller
@@ -60,19 +59,16 @@ pub loop-r-preserved : goal.loop-r-preserved
 loop-r-preserved c = let s = told c.args.text.now c.loop-r.c _ _ c.next.ensures c.in-Gap.is in
     lexing-gap _ _ _ _ _ c.loop-r.invariant _ s
 
-pub narrow-requires : goal.narrow-requires
-narrow-requires c = omega (arith, c.loop-r.invariant.few)
-
 pub shape_of-work-in-End : goal.shape_of-work-in-End
 shape_of-work-in-End c = c.loop-r.invariant.long
 
 pub returns-in-End : goal.returns-in-End
 returns-in-End c = let text = c.args.text.now in
-    let p = lexing-end c.args.marked text c.args.work.now c.loop-r.c _ c.loop-r.invariant _ _ c.narrow.ensures
+    let p = lexing-end c.args.marked text c.args.work.now c.loop-r.c _ c.loop-r.invariant _ _ refl
     (told text c.loop-r.c _ _ c.next.ensures c.in-End.is) refl c.requires.text_in_bounds in record { value = p.0; recorded = p.1.0; room = p.1.1 }
 
-pub narrow-requires-in-Fault : goal.narrow-requires-in-Fault
-narrow-requires-in-Fault c = omega (arith, (told c.args.text.now c.loop-r.c _ _ c.next.ensures c.in-Fault.is).1, c.requires.text_len_bound)
+pub overflow_cast-result-in-Fault : goal.overflow_cast-result-in-Fault
+overflow_cast-result-in-Fault c = omega (arith, (told c.args.text.now c.loop-r.c _ _ c.next.ensures c.in-Fault.is).1, c.requires.text_len_bound)
 
 pub shape_of-work-in-Fault : goal.shape_of-work-in-Fault
 shape_of-work-in-Fault c = c.loop-r.invariant.long
@@ -80,5 +76,5 @@ shape_of-work-in-Fault c = c.loop-r.invariant.long
 pub returns-in-Fault : goal.returns-in-Fault
 returns-in-Fault c = let work = c.args.work.now in
     let text = c.args.text.now in
-    let p = lexing-fault c.args.marked text work c.loop-r.c _ c.loop-r.invariant _ _ _ _ (length work) c.wide-in-Fault.ensures
-    c.narrow-in-Fault.ensures (told text c.loop-r.c _ _ c.next.ensures c.in-Fault.is).0 in record { value = p.0; recorded = p.1.0; room = p.1.1 }
+    let p = lexing-fault c.args.marked text work c.loop-r.c _ c.loop-r.invariant _ _ _ _ (length work) refl refl
+    (told text c.loop-r.c _ _ c.next.ensures c.in-Fault.is).0 in record { value = p.0; recorded = p.1.0; room = p.1.1 }

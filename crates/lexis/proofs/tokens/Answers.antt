@@ -1,21 +1,19 @@
--- A short table, a long text, and what the bytes give. The table of classes is computed here, once.
-use mathlib.Core.Path.{refl, sym, ◌∙◌}
+-- A short table, a long text, and what the bytes give.
+use mathlib.Core.Path.{sym, ◌∙◌}
 use borrow.Author.Tests.{leb-true}
 use Rattle.lexis.specs.Sizes.{max_text, table_words}
-use Rattle.lexis.specs.Bytes.{class_of, classes_from, class_table}
 use Rattle.lexis.proofs.Answers.{short-table, long-text, tokens-by}
 use Rattle.lexis.proofs.tokens.Goals as goal
 
 pub returns-then-not-table_serves : goal.returns-then-not-table_serves
-returns-then-not-table_serves c = let p = short-table c.args.text.now c.args.table.now (sym c.table_serves.ensures ∙ c.if-not-table_serves.true) in record { value = p.0; table_after = p.1 }
+returns-then-not-table_serves c = let p = short-table c.args.text.now c.args.table.now (sym c.table_serves.ensures ∙ c.if-not-table_serves.true) c.short_room.ensures in record { value = p.0; table_after = p.1 }
 
 pub returns-then-not-text_fits : goal.returns-then-not-text_fits
 returns-then-not-text_fits c = let p = long-text c.args.text.now c.args.table.now (sym c.table_serves.ensures ∙ c.if-not-table_serves.false)
-    (sym c.text_fits.ensures ∙ c.if-not-text_fits.true) in record { value = p.0; table_after = p.1 }
+    (sym c.text_fits.ensures ∙ c.if-not-text_fits.true) c.long_text.ensures in record { value = p.0; table_after = p.1 }
 
 pub tokens_within-requires : goal.tokens_within-requires
-unfolding class_table classes_from class_of
-tokens_within-requires c = record { classes_value = refl; text_len_bound = leb-true _ max_text (sym c.text_fits.ensures ∙ c.if-not-text_fits.false); table_words_in_bounds = leb-true table_words _ (sym c.table_serves.ensures ∙ c.if-not-table_serves.false) }
+tokens_within-requires c = record { text_len_bound = leb-true _ max_text (sym c.text_fits.ensures ∙ c.if-not-text_fits.false); table_words_in_bounds = leb-true table_words _ (sym c.table_serves.ensures ∙ c.if-not-table_serves.false) }
 
 pub returns : goal.returns
 returns c = let w = c.tokens_within.ensures in

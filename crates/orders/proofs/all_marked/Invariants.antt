@@ -4,8 +4,5 @@ use Prim.Native.Nat.{◌+◌, ◌-◌}
 use Rattle.orders.specs.Scratch.{needs_from, all_marked}
 use Rattle.orders.proofs.all_marked.Given as goal
 
-abbrev pub invariant-loop-i : goal.invariant-loop-i
-invariant-loop-i l = all_marked l.marks (needs_from l.records l.from l.count) ≡ all_marked l.marks (needs_from l.records (l.from + l.i) (l.count - l.i))
-
-abbrev pub decreases-loop-i : goal.decreases-loop-i
-decreases-loop-i l = l.count - l.i
+abbrev pub invariant-loop-u : goal.invariant-loop-u
+invariant-loop-u l = all_marked l.marks (needs_from l.records l.from l.count) ≡ all_marked l.marks (needs_from l.records l.u (l.from + l.count - l.u))

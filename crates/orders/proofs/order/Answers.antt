@@ -13,7 +13,7 @@ pub returns-then-not-areas_serve : goal.returns-then-not-areas_serve
 unfolding judged
 returns-then-not-areas_serve c = let p = refused c.args.list.now c.args.doc.now c.args.work1.now c.args.work2.now c.args.order.now
     (guard-room c.args.list.now c.args.doc.now (order_stages c.args.list.now c.args.doc.now c.args.order.now)
-    (sym c.areas_serve.ensures ∙ c.if-not-areas_serve.true)) refl c.no_text.ensures in record { value = p.0; work1_after = p.1.0; work2_after = p.1.1 }
+    (sym c.areas_serve.ensures ∙ c.if-not-areas_serve.true)) refl c.short_room.ensures in record { value = p.0; work1_after = p.1.0; work2_after = p.1.1 }
 
 pub returns-then-not-text_fits : goal.returns-then-not-text_fits
 unfolding judged

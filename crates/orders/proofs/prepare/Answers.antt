@@ -10,9 +10,6 @@ loop-k-init c = prepared-start c.args.records.now c.args.n c.args.firsts.now c.a
 pub overflow_cast-firsts : goal.overflow_cast-firsts
 overflow_cast-firsts c = omega (arith, c.loop-k.invariant.sum, c.requires.bounded.uses, sum-grows c.args.records.now c.loop-k.k c.args.n c.loop-k.invariant.inside)
 
-pub overflow_cast-uses : goal.overflow_cast-uses
-overflow_cast-uses c = omega (arith, c.shared_slice_known-1.given (count_at c.loop-k.k))
-
 pub overflow_add-uses-in-loop-k : goal.overflow_add-uses-in-loop-k
 overflow_add-uses-in-loop-k c = omega (
   arith,

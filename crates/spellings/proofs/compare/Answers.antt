@@ -1,7 +1,4 @@
-use Prim.Native.Nat.{ℕ}
-use mathlib.Core.Path.{◌≡◌, ◌∙◌}
-use lib.ListN.{get_or}
-use borrow.Author.Count.{below_more}
+use mathlib.Core.Path.{◌∙◌}
 use Rattle.spellings.proofs.Pairs.{told-lengths, tells-empty, tells-last, tells-front, tells_all}
 use Rattle.spellings.proofs.compare.Goals as goal
 
@@ -14,15 +11,9 @@ returns-then-n-eq0 c = c.tell-then-n-eq0.ensures ∙ tells-empty c.args.a.now c.
 pub returns-then-a-last : goal.returns-then-a-last
 returns-then-a-last c = c.tell-then-a-last.ensures ∙ tells-last c.args.a.now c.args.b.now c.if-n-b.false c.if-a-last.true
 
-pub loop-i-init : goal.loop-i-init
-loop-i-init c = c.agreeing-i.ensures
-
 pub returns-then-a-i : goal.returns-then-a-i
 returns-then-a-i c = c.tell-then-a-i.ensures
     ∙ tells-front c.args.a.now c.args.b.now c.if-n-b.false c.if-a-last.false c.loop-i.i c.loop-i-test.true c.loop-i.invariant c.if-a-i.true
-
-pub loop-i-preserved : goal.loop-i-preserved
-loop-i-preserved c = below_more (λ (j : ℕ). get_or c.args.a.now j 0 ≡ get_or c.args.b.now j 0) c.loop-i.i c.loop-i.invariant c.if-a-i.false
 
 pub returns : goal.returns
 returns c = c.tell-2.ensures

@@ -5,4 +5,4 @@ use Rattle.spellings.proofs.same.Goals as goal
 
 pub returns : goal.returns
 unfolding comparison
-returns c = ap (λ (r : Comparison). r.same) c.compare-c.ensures
+returns c = ap (λ (r : Comparison). r.same) c.compare.ensures

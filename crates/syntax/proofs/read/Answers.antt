@@ -1,76 +1,36 @@
 -- `read` meets its contract: what the lexer leaves in the work area holds the tokens, and a fault's place lies in the text. Assumes nothing.
+use mathlib.Core.Path.{refl}
 use native.Mathlib.Omega.{arith}
-use lib.ListN.{length}
-use Rattle.syntax.proofs.Reading.{got, room_of, read-refused, read-good, read-bad, fault-within}
+use borrow.Author.Rules.{rules}
+use Rattle.std.proofs.lemmas.Result.{err_from_is_err_and}
+use Rattle.syntax.proofs.Reading.{got, read-refused, read_is, place-within}
 use Rattle.syntax.proofs.read.Goals as goal
 
-pub returns-in_default : goal.returns-in_default
-returns-in_default c = record {
-  value = read-refused c.args.which
-      c.args.text.now _ c.lex_into-found.ensures.value
-      c.in_default.is;
-  recorded = c.lex_into-found.ensures.recorded;
-  room = c.lex_into-found.ensures.room;
-}
+pub returns-in_err-n-clause-value : goal.returns-in_err-n-clause-value
+returns-in_err-n-clause-value c = let p = err_from_is_err_and c.from_residual.result c.from_residual.ensures.1 in
+    rw (p.1, p.2) (read-refused c.args.which c.args.text.now _ c.in_err-n.ensures.value refl)
 
-pub syntax_of-answer-requires : goal.syntax_of-answer-requires
-syntax_of-answer-requires c = (got c.args.text.now
-    c.args.work.now
-    c.lex_into-found.new.work _ _ c.lex_into-found.ensures.value
-    c.lex_into-found.ensures.recorded c.lex_into-found.ensures.room
-    c.requires.work_words_in_bounds c.in-Tokens.is).table
+pub invariant_of-tokens : goal.invariant_of-tokens
+invariant_of-tokens c = let f = c.in_ok-n.ensures in
+    record { holds = (got c.args.text.now c.args.work.now c.lex_into.new.work _ _ f.value f.recorded f.room c.requires.work_words_in_bounds refl).table }
 
-pub returns-in_default-answer : goal.returns-in_default-answer
-returns-in_default-answer c = let g = got c.args.text.now
-    c.args.work.now
-    c.lex_into-found.new.work _ _
-    c.lex_into-found.ensures.value
-    c.lex_into-found.ensures.recorded
-    c.lex_into-found.ensures.room
-    c.requires.work_words_in_bounds
-    c.in-Tokens.is in
-    record {
-      value = read-good c.args.which
-          c.args.text.now
-          c.lex_into-found.new.work _ g c.syntax_of-answer.ensures
-          c.in_default-answer.is;
-      recorded = c.lex_into-found.ensures.recorded;
-      room = room_of (length c.args.work.now)
-          c.lex_into-found.ensures.room
-          c.in-Tokens.is;
-    }
+pub returns-in-Ok-clause-value : goal.returns-in-Ok-clause-value
+returns-in-Ok-clause-value c = let text = c.args.text.now in
+    let work = c.lex_into.new.work in
+    let f = c.in_ok-n.ensures in
+    let g = got text c.args.work.now work _ _ f.value f.recorded f.room c.requires.work_words_in_bounds refl in
+    read_is c.args.which text work _ g c.in-Ok.ensures
 
 pub overflow_cast-result : goal.overflow_cast-result
-overflow_cast-result c = let g = got c.args.text.now
-    c.args.work.now
-    c.lex_into-found.new.work _ _
-    c.lex_into-found.ensures.value
-    c.lex_into-found.ensures.recorded
-    c.lex_into-found.ensures.room
-    c.requires.work_words_in_bounds
-    c.in-Tokens.is in
-    let h = fault-within c.args.text.now
-    c.lex_into-found.new.work _ g.table
-    c.args.which
-    c.syntax_of-answer.ensures c.in-Fault.is in
-    record {
-      fits = omega (arith, h, c.requires.text_len_bound);
-    }
+overflow_cast-result c = let text = c.args.text.now in
+    let work = c.lex_into.new.work in
+    let f = c.in_ok-n.ensures in
+    let g = got text c.args.work.now work _ _ f.value f.recorded f.room c.requires.work_words_in_bounds refl in
+    omega (arith, place-within text work _ g.table c.place.result, c.place_at.ensures, c.requires.text_len_bound)
 
-pub returns : goal.returns
-returns c = let g = got c.args.text.now
-    c.args.work.now
-    c.lex_into-found.new.work _ _
-    c.lex_into-found.ensures.value
-    c.lex_into-found.ensures.recorded
-    c.lex_into-found.ensures.room
-    c.requires.work_words_in_bounds
-    c.in-Tokens.is in
-    record {
-      value = read-bad c.args.which
-          c.args.text.now
-          c.lex_into-found.new.work _ g
-          c.syntax_of-answer.ensures c.in-Fault.is;
-      recorded = c.lex_into-found.ensures.recorded;
-      room = tt;
-    }
+pub returns-in-Err-clause-value : goal.returns-in-Err-clause-value
+returns-in-Err-clause-value c = let text = c.args.text.now in
+    let work = c.lex_into.new.work in
+    let f = c.in_ok-n.ensures in
+    let g = got text c.args.work.now work _ _ f.value f.recorded f.room c.requires.work_words_in_bounds refl in
+    rw (c.refusal.ensures, c.place_at.ensures, c.place.ensures) (read_is c.args.which text work _ g c.in-Err.ensures)

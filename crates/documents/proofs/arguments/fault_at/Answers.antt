@@ -1,12 +1,15 @@
 -- The place is that of the token.
+use mathlib.Core.Path.{ap, ◌∙◌}
 use native.Mathlib.Omega.{arith}
+use Rattle.lexis.specs.Refusal.{refusal_number}
+use Rattle.std.proofs.Math.Option.{some}
+use Rattle.lists.specs.Fault.{fault}
 use Rattle.syntax.specs.Table.{token_at}
-use Rattle.documents.proofs.ArgumentFaults.{fault-meant}
 use Rattle.documents.proofs.arguments.fault_at.Goals as goal
 
-pub returns-then-n-at : goal.returns-then-n-at
-returns-then-n-at c = λ l. absurd (omega (arith, l, c.if-n-at.true))
+pub returns-then-tokens-at : goal.returns-then-tokens-at
+returns-then-tokens-at c = λ l. absurd (omega (arith, l, c.if-tokens-at.true))
 
 pub returns : goal.returns
 unfolding token_at
-returns c = λ l. fault-meant c.args.code _ _ c.requires.code_nonzero c.start_at.ensures
+returns c = λ l. c.one.ensures ∙ ap (λ p. some (fault (refusal_number c.args.refusal) p)) c.start_at.ensures

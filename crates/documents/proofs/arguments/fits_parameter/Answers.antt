@@ -12,6 +12,6 @@ returns c = record {
   range = c.fits_item.ensures.range;
   meaning = λ p x us e h.
       c.fits_item.ensures.meaning both max_brackets x us max_brackets p.ty e.after h
-      (ap (λ (k : ℕ). type max_brackets (toks c.args.ltext.now c.args.ltable.now c.args.ln (k + 2))) c.name_of-t.ensures ∙ e.typed)
+      (ap (λ (k : ℕ). type max_brackets (toks c.args.callee.now.list.text.now c.args.callee.now.list.table.now c.args.callee.now.list.count (k + 2))) c.name_of-t.ensures.value ∙ e.typed)
       (c.kinds_in-kinds.ensures p.ty (c.code_of-code.ensures ∙ e.code)) (c.pairs_in-pairs.ensures p.ty (c.code_of-code.ensures ∙ e.code));
 }

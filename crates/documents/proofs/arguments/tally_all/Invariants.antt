@@ -3,8 +3,8 @@ use Prim.Native.Nat.{◌-◌, ◌≤◌}
 use Rattle.documents.proofs.Tallying.{Sums}
 use Rattle.documents.proofs.arguments.tally_all.Given as goal
 
-abbrev pub invariant-loop-o : goal.invariant-loop-o
-invariant-loop-o l = (l.t.index ≤ l.t.at) × (l.t.at ≤ l.dn) × (l.at ≤ l.t.at) × Sums l.dtext l.dtable l.dn l.ltext l.ltable l.words l.ln l.o l.at l.t
+abbrev pub invariant-loop-t : goal.invariant-loop-t
+invariant-loop-t l = (l.t.index ≤ l.t.at) × (l.t.at ≤ l.doc.count) × (l.at ≤ l.t.at) × Sums l.doc l.callee l.at l.t
 
-abbrev pub decreases-loop-o : goal.decreases-loop-o
-decreases-loop-o l = l.dn - l.t.at
+abbrev pub decreases-loop-t : goal.decreases-loop-t
+decreases-loop-t l = l.doc.count - l.t.at

@@ -16,16 +16,10 @@ loop-walk-init c = (
   refl,
   refl,
   λ hs ins outs cs H h m.
-      going_start c.args.dtext.now c.args.dtable.now c.args.dn c.args.graph.body c.args.graph.end hs ins outs cs c.args.index.now c.args.records.now
+      going_start c.args.source.now.tokens.text.now c.args.source.now.tokens.table.now c.args.source.now.tokens.count c.args.graph.body c.args.graph.end hs ins outs cs c.args.index.now c.args.records.now
       _ refl refl refl refl
       (ap meant c.none.ensures ∙ clean-none) h m,
 )
-
-pub call_at-walk-requires : goal.call_at-walk-requires
-call_at-walk-requires c = record { holds = c.requires.holds; holds_2 = c.requires.holds_2; directed = c.requires.directed; dn_le_max_tokens = (c.requires.dn_le_max_tokens.0, c.requires.dn_le_max_tokens.1, omega (arith, c.requires.dn_le_max_tokens.2, c.loop-walk.invariant.5)); at_lt_dn = (omega (arith, c.loop-walk-test.true, c.requires.end_le_dn), c.loop-walk.invariant.0, c.loop-walk.invariant.1, c.loop-walk.invariant.2); walkable = c.loop-walk.invariant.3 }
-
-pub loop-walk-smaller : goal.loop-walk-smaller
-loop-walk-smaller c = omega (arith, c.loop-walk-test.true, c.call_at-walk.ensures.at_lt_at.0)
 
 pub loop-walk-preserved : goal.loop-walk-preserved
 loop-walk-preserved c = (
@@ -37,21 +31,15 @@ loop-walk-preserved c = (
   c.call_at-walk.ensures.walkable_2.2 ∙ c.loop-walk.invariant.5,
   search rules,
   λ hs ins outs cs H h m.
-      going_next c.args.dtext.now c.args.dtable.now c.args.dn c.args.graph.body c.args.graph.end hs ins outs cs c.loop-walk.index c.loop-walk.records _ _ c.loop-walk.walk
+      going_next c.args.source.now.tokens.text.now c.args.source.now.tokens.table.now c.args.source.now.tokens.count c.args.graph.body c.args.graph.end hs ins outs cs c.loop-walk.index c.loop-walk.records _ _ c.loop-walk.walk
       c.call_at-walk.result
       c.loop-walk-test.true c.requires.end_le_dn (c.loop-walk.invariant.7 hs ins outs cs H h m) (λ ds js us k w. c.call_at-walk.ensures.stepped hs ins outs ds js us H k w),
 )
-
-pub shape_of-index : goal.shape_of-index
-shape_of-index c = c.loop-walk.invariant.6
-
-pub shape_of-records : goal.shape_of-records
-shape_of-records c = c.loop-walk.invariant.5
 
 pub returns : goal.returns
 returns c = record {
   walkable_2 = c.loop-walk.invariant.4;
   body = λ hs ins outs cs H h m.
-      going_end c.args.dtext.now c.args.dtable.now c.args.dn c.args.graph.body c.args.graph.end hs ins outs cs c.loop-walk.index c.loop-walk.records c.loop-walk.walk c.loop-walk-test.false
+      going_end c.args.source.now.tokens.text.now c.args.source.now.tokens.table.now c.args.source.now.tokens.count c.args.graph.body c.args.graph.end hs ins outs cs c.loop-walk.index c.loop-walk.records c.loop-walk.walk c.loop-walk-test.false
       (c.loop-walk.invariant.7 hs ins outs cs H h m);
 }

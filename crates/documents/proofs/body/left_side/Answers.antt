@@ -13,16 +13,13 @@ use Rattle.lists.specs.Walks.{when}
 use Rattle.documents.proofs.BodyWalks.{left-done}
 use Rattle.documents.proofs.body.left_side.Goals as goal
 
-pub assigned-requires : goal.assigned-requires
-assigned-requires c = record { holds = c.requires.holds; at_le_equal = (c.requires.at_lt_n.1, c.requires.at_lt_n.2, c.requires.at_lt_n.3, c.requires.at_lt_n.4, c.requires.at_lt_n.5); walkable = c.requires.walkable }
-
 pub returns : goal.returns
 unfolding token_at
 returns c = record {
   count_le_count = c.assigned.ensures.count_le_count;
   walkable_2 = c.assigned.ensures.walkable_2;
   left_side = λ ins outs ds d w e m k.
-      left-done c.args.text.now c.args.table.now c.args.index.now _ c.args.n c.args.at c.args.equal c.args.k c.is_external-external.result c.args.tally
+      left-done c.args.source.now.tokens.text.now c.args.source.now.tokens.table.now c.args.index.now _ c.args.source.now.tokens.count c.args.at c.args.equal c.args.k c.is_external-external.result c.args.tally
       (record { best = c.earlier.result; count = c.args.tally.count }) c.assigned.result c.assigned.ensures.assigns refl ins outs ds d w e m k
       (c.is_external-external.ensures w.inside.1 ∙ ap (λ (t : Token). same_bytes t.bytes (ascii "external")) w.title)
       (c.earlier.ensures

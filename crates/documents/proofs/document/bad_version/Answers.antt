@@ -11,13 +11,13 @@ use Rattle.lists.specs.Walks.{when}
 use Rattle.documents.proofs.CallUsage.{when-not}
 use Rattle.documents.proofs.document.bad_version.Goals as goal
 
-pub returns-then-n-le1 : goal.returns-then-n-le1
-returns-then-n-le1 c = λ h. absurd (omega (arith, h, c.if-n-le1.true))
+pub returns-then-tokens-le1 : goal.returns-then-tokens-le1
+returns-then-tokens-le1 c = λ h. absurd (omega (arith, h, c.if-tokens-le1.true))
 
 pub returns : goal.returns
 unfolding token_at
 returns c = λ h.
-    let t = token_at c.args.text.now c.args.table.now 1 in
+    let t = token_at c.args.tokens.now.text.now c.args.tokens.now.table.now 1 in
     let same = c.same-right.ensures ∙ ap (λ (w : List ℕ). same_bytes w (ascii "1.0")) c.bytes_at.ensures in
     c.fault_if.ensures
     ∙ ap₂ (λ (x : Bool) (p : ℕ). first (when (not x) (fault 11 p))) same c.start_at.ensures

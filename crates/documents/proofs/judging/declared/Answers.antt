@@ -11,49 +11,29 @@ use Rattle.syntax.specs.Table.{toks}
 use Rattle.lists.specs.Fault.{Fault, earlier}
 use Rattle.lists.specs.Best.{meant}
 use Rattle.lists.specs.Masks.{is_required}
+use Rattle.documents.specs.declared.operation.Operation.{Operation}
 use Rattle.documents.specs.Arguments.{bound}
-use Rattle.documents.proofs.DirectoryEntries.{recorded, names-below, declares}
+use Rattle.documents.proofs.DirectoryEntries.{takes}
 use Rattle.documents.proofs.Judgements.{parts, name-starts, left-starts-at, arguments-are, required-few, bound-few, call-sum}
 use Rattle.documents.proofs.judging.declared.Goals as goal
-
-pub operation_at-o-requires : goal.operation_at-o-requires
-operation_at-o-requires c = record { operation_words_in_bounds = omega (arith, c.requires.readable.number, c.requires.readable.room); k_bound = c.requires.readable.ordered }
-
-pub overflow_add-equal : goal.overflow_add-equal
-overflow_add-equal c = omega (arith, c.requires.holds_2.room, c.requires.at_lt_dn.1)
-
-pub tally_all-t-requires : goal.tally_all-t-requires
-tally_all-t-requires c = record { holds = c.requires.holds_2; holds_2 = c.requires.holds; params_recorded = recorded c.operation_at-o.ensures c.requires.readable; names_below = names-below c.operation_at-o.ensures c.requires.readable; at_le_dn = omega (arith, c.requires.at_lt_dn.1) }
-
-pub overflow_add-equal-2 : goal.overflow_add-equal-2
-overflow_add-equal-2 c = omega (arith, c.requires.holds_2.room, c.requires.at_lt_dn.1)
-
-pub start_at-requires : goal.start_at-requires
-start_at-requires c = omega (arith, c.requires.holds_2.room, c.requires.at_lt_dn.1)
-
-pub matches-matched-requires : goal.matches-matched-requires
-matches-matched-requires c = record { holds = c.requires.holds_2; holds_2 = c.requires.holds }
-
-pub start_at-requires-2 : goal.start_at-requires-2
-start_at-requires-2 c = omega (arith, c.requires.holds_2.room, c.requires.at_lt_dn.0)
 
 pub returns : goal.returns
 returns c = record {
   range = (refl, omega (arith, c.tally_all-t.ensures.range.0, c.requires.at_lt_dn.1), c.tally_all-t.ensures.range.1);
   meaning = λ h e g.
-      let d = declares c.operation_at-o.ensures e g in
+      let d = takes c.callee_at-callee.ensures e g in
       let ps = h.params in
       let few = d.few in
       let results =
-      ap (λ (i : ℕ). row plain (commas right_round) (typed_name max_brackets) (toks c.args.ltext.now c.args.ltable.now c.args.ln i)) c.operation_at-o.ensures.results ∙ e.results in
+      ap (λ (i : ℕ). row plain (commas right_round) (typed_name max_brackets) (toks c.args.directory.now.tokens.text.now c.args.directory.now.tokens.table.now c.args.directory.now.tokens.count i)) (ap (λ (o : Operation). o.results) c.callee_at-callee.ensures.operation) ∙ e.results in
       record {
         faults = λ k w.
             let q = (c.tally_all-t.ensures.meaning ps k.args (parts w).behind d (arguments-are w)).0 in
             let xs = k.args in
             call-sum h k c.tally_all-t.result q
-            (c.first_missing-missing.ensures (map is_required ps) (bound ps xs) (c.operation_at-o.ensures.required ∙ e.required) q.flags (required-few ps few) (bound-few ps few xs))
+            (c.first_missing-missing.ensures (map is_required ps) (bound ps xs) (ap (λ (o : Operation). o.required) c.callee_at-callee.ensures.operation ∙ e.required) q.flags (required-few ps few) (bound-few ps few xs))
             (c.start_at.ensures ∙ name-starts w) c.fault_if-unmatched.ensures (c.start_at-2.ensures ∙ left-starts-at w)
-            (c.matches-matched.ensures max_brackets k.left _ max_brackets h.results e.after w.leads results (c.operation_at-o.ensures.code ∙ e.code))
+            (c.matches-matched.ensures max_brackets k.left _ max_brackets h.results e.after w.leads results (ap (λ (o : Operation). o.code) c.callee_at-callee.ensures.operation ∙ e.code))
             (c.earlier-2.ensures ∙ ap (λ (v : Option Fault). earlier v (meant c.fault_if-unmatched.result)) c.earlier.ensures);
         closes = λ xs us r. let q = c.tally_all-t.ensures.meaning ps xs us d r in (q.1, q.2);
       };

@@ -1,17 +1,12 @@
 use mathlib.Core.Path.{◌∙◌}
 use mathlib.Core.List.{[], ◌∷◌}
 use Prim.Native.Nat.{◌+◌, ◌*◌}
-use native.Mathlib.Omega.{arith}
-use lib.ListN.{length-set}
 use Rattle.documents.specs.Records.{first_wire, wire_size}
 use Rattle.documents.proofs.Recording.{two-sets, wire-stored, wire-beyond}
 use Rattle.documents.proofs.records.wire.Goals as goal
 
 pub returns-then-u-ge-USES : goal.returns-then-u-ge-USES
 returns-then-u-ge-USES c = wire-beyond c.args.records.now c.args.u (c.args.place ∷ c.args.call ∷ []) c.if-u-ge-USES.true
-
-pub bounds-records-u-2 : goal.bounds-records-u-2
-bounds-records-u-2 c = simp length-set (omega arith)
 
 pub returns : goal.returns
 returns c = two-sets c.args.records.now (first_wire + c.args.u * wire_size) c.args.place c.args.call

@@ -1,21 +1,32 @@
 -- The bytes and the syntax of the document, then its rules.
-use lib.ListN.{length}
+use mathlib.Core.Path.{refl}
 use Rattle.lexis.specs.Lexer.{lex}
-use Rattle.syntax.proofs.Reading.{room_of}
 use Rattle.lists.proofs.ListStages.{written-length}
 use Rattle.documents.proofs.BothStages.{read-document, document-stops, both_under}
 use Rattle.documents.proofs.stages.document_stages.Goals as goal
 
-pub read-requires : goal.read-requires
-read-requires c = record { classes_value = c.requires.classes_value; text_len_bound = c.requires.doc_len_bound; work_words_in_bounds = c.requires.work_words_in_bounds.0 }
+pub invariant_of-source : goal.invariant_of-source
+invariant_of-source c = let r = c.in-Ok.ensures in
+    let d = read-document c.args.doc.now c.args.work2.now _ _ r.room.0 c.requires.work_words_in_bounds.0 r.value refl r.recorded r.room in
+    record { holds = d.table }
 
 pub rules_stage-requires : goal.rules_stage-requires
-rules_stage-requires c = let r = room_of (length c.args.work2.now) c.read.ensures.room c.in-Tokens.is in
-    record { list_passed = c.requires.list_passed; document_read = read-document c.args.doc.now c.args.work2.now _ _ r.0 c.requires.work_words_in_bounds.0 c.read.ensures.value c.in-Tokens.is c.read.ensures.recorded c.read.ensures.room; doc_len_bound = (c.requires.doc_len_bound, c.requires.work_words_in_bounds.1) }
+rules_stage-requires c = let r = c.in-Ok.ensures in
+    record {
+      list_passed = c.requires.list_passed;
+      document_read = read-document c.args.doc.now c.args.work2.now _ _ r.room.0 c.requires.work_words_in_bounds.0 r.value refl r.recorded r.room;
+      records_room = c.requires.work_words_in_bounds.1;
+    }
 
-pub returns-in-Tokens : goal.returns-in-Tokens
-returns-in-Tokens c = record { both_done = c.rules_stage.ensures; work2_len_unchanged = written-length (lex c.args.doc.now) c.args.work2.now _ c.read.ensures.recorded }
+pub returns-in-Ok : goal.returns-in-Ok
+returns-in-Ok c = record {
+  under_done = c.rules_stage.ensures;
+  work2_len_unchanged = written-length (lex c.args.doc.now) c.args.work2.now _ c.read.ensures.recorded;
+}
 
-pub returns-in-Fault : goal.returns-in-Fault
-returns-in-Fault c = let stops = document-stops c.requires.list_passed.headers c.args.doc.now c.read.ensures.value c.in-Fault.is in
-    record { both_done = both_under c.args.list.now c.args.doc.now c.requires.list_passed.stages stops; work2_len_unchanged = written-length (lex c.args.doc.now) c.args.work2.now _ c.read.ensures.recorded }
+pub returns-in-Err : goal.returns-in-Err
+returns-in-Err c = let stops = document-stops c.requires.list_passed.headers c.args.doc.now c.in-Err.ensures.value refl in
+    record {
+      under_done = rw c.refused.ensures (both_under c.args.list.now.tokens.text.now c.args.doc.now c.requires.list_passed.stages stops);
+      work2_len_unchanged = written-length (lex c.args.doc.now) c.args.work2.now _ c.read.ensures.recorded;
+    }

@@ -11,7 +11,6 @@ use Rattle.documents.specs.Naming.{numbered, assigners}
 use Rattle.documents.specs.NameWalks.{Uses}
 use Rattle.documents.proofs.Walking.{using-start, using-next, using-end, here-some, here-none}
 use Rattle.documents.proofs.NameTurns.{turn-none, no-wires}
-use borrow.Author.Rules.{rules}
 use Rattle.documents.proofs.wiring.used.Goals as goal
 use Rattle.documents.proofs.wiring.used.Goals.{then-is_use, else-is_use}
 
@@ -21,28 +20,16 @@ loop-i-init c = (
   omega arith,
   omega arith,
   refl,
-  using-start c.args.text.now c.args.table.now c.args.records.now c.args.from c.args.to c.args.tally c.args.index.now c.args.k,
+  using-start c.args.source.now.tokens.text.now c.args.source.now.tokens.table.now c.args.records.now c.args.from c.args.to c.args.tally c.args.index.now c.args.k,
   omega arith,
 )
 
-pub is_use-requires : goal.is_use-requires
-is_use-requires c = record { holds = c.requires.holds; to_le_n = (c.requires.to_le_n.0, c.loop-i-test.true) }
-
-pub used_at-sum-requires : goal.used_at-sum-requires
-used_at-sum-requires c = record { holds = c.requires.holds; i_lt_n = (omega (arith, c.loop-i-test.true, c.requires.to_le_n.0), omega (arith, c.loop-i-test.true, c.requires.to_le_n.0, c.requires.to_le_n.1), c.requires.to_le_n.2, omega (arith, c.loop-i.invariant.0, c.loop-i.invariant.1, c.requires.to_le_n.3)); text_len_bound = (c.requires.text_len_bound.0, omega (arith, c.loop-i.invariant.3, c.requires.text_len_bound.1)); walkable = c.requires.walkable }
-
-pub overflow_add-i : goal.overflow_add-i
-overflow_add-i c = search rules
-
-pub loop-i-smaller : goal.loop-i-smaller
-loop-i-smaller c = omega (arith, c.loop-i-test.true)
-
 pub loop-i-preserved : goal.loop-i-preserved
-loop-i-preserved c = let here = token_at c.args.text.now c.args.table.now c.loop-i.i in
-    let after = toks c.args.text.now c.args.table.now c.args.to (c.loop-i.i + 1) in
+loop-i-preserved c = let here = token_at c.args.source.now.tokens.text.now c.args.source.now.tokens.table.now c.loop-i.i in
+    let after = toks c.args.source.now.tokens.text.now c.args.source.now.tokens.table.now c.args.to (c.loop-i.i + 1) in
     let x : ((c.loop-i.sum.count ≤ c.if-is_use.sum.count) × (c.if-is_use.sum.count ≤ suc c.loop-i.sum.count))
     × (length c.if-is_use.records ≡ length c.loop-i.records)
-    × Uses c.args.text.now c.args.table.now c.args.index.now c.loop-i.records c.if-is_use.records c.args.k (uses_here here after) c.loop-i.sum
+    × Uses c.args.source.now.tokens.text.now c.args.source.now.tokens.table.now c.args.index.now c.loop-i.records c.if-is_use.records c.args.k (uses_here here after) c.loop-i.sum
     c.if-is_use.sum =
     elim c.if-is_use.branch [
       | then-is_use w ↦
@@ -62,19 +49,16 @@ loop-i-preserved c = let here = token_at c.args.text.now c.args.table.now c.loop
       omega (arith, x.0.1, c.loop-i.invariant.0, c.loop-i.invariant.1),
       omega (arith, c.loop-i-test.true),
       x.1 ∙ c.loop-i.invariant.3,
-      using-next c.args.text.now c.args.table.now c.args.records.now c.args.from c.args.to c.args.tally c.loop-i.records _ c.loop-i.i c.loop-i.sum c.if-is_use.sum c.loop-i-test.true c.args.index.now
+      using-next c.args.source.now.tokens.text.now c.args.source.now.tokens.table.now c.args.records.now c.args.from c.args.to c.args.tally c.loop-i.records _ c.loop-i.i c.loop-i.sum c.if-is_use.sum c.loop-i-test.true c.args.index.now
           c.args.k
           c.loop-i.invariant.4 x.2,
       omega (arith, x.0.0, c.loop-i.invariant.5),
     )
 
-pub shape_of-records : goal.shape_of-records
-shape_of-records c = c.loop-i.invariant.3
-
 pub returns : goal.returns
 returns c = record {
   count_le_count = (c.loop-i.invariant.5, omega (arith, c.loop-i.invariant.1, c.loop-i.invariant.2));
   records_len_unchanged = c.loop-i.invariant.3;
-  uses = using-end c.args.text.now c.args.table.now c.args.records.now c.args.from c.args.to c.args.tally c.loop-i.records c.loop-i.i c.loop-i.sum c.args.index.now c.args.k
+  uses = using-end c.args.source.now.tokens.text.now c.args.source.now.tokens.table.now c.args.records.now c.args.from c.args.to c.args.tally c.loop-i.records c.loop-i.i c.loop-i.sum c.args.index.now c.args.k
       c.loop-i-test.false c.loop-i.invariant.4;
 }

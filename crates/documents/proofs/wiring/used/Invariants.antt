@@ -7,7 +7,4 @@ use Rattle.documents.proofs.wiring.used.Given as goal
 
 abbrev pub invariant-loop-i : goal.invariant-loop-i
 invariant-loop-i l = (l.from ≤ l.i) × (l.sum.count ≤ l.initial.sum.count + (l.i - l.from)) × (l.i ≤ max l.from l.to) × (length l.records ≡ length l.initial.records)
-    × Using l.text l.table l.initial.records l.records l.from l.to l.i l.initial.sum l.sum l.index l.k × (l.initial.sum.count ≤ l.sum.count)
-
-abbrev pub decreases-loop-i : goal.decreases-loop-i
-decreases-loop-i l = l.to - l.i
+    × Using l.source.tokens.text.now l.source.tokens.table.now l.initial.records l.records l.from l.to l.i l.initial.sum l.sum l.index l.k × (l.initial.sum.count ≤ l.sum.count)

@@ -3,4 +3,4 @@ use Rattle.index.proofs.Hashes.{short-is}
 use Rattle.index.proofs.hash.short_hash.Goals as goal
 
 pub returns : goal.returns
-returns c = let w = c.args.w.now in short-is w _ _ _ _ _ c.wide.ensures.value c.wide-2.ensures.value c.wide-3.ensures.value refl c.mix.ensures
+returns c = let w = c.args.w.now in short-is w _ _ _ _ _ c.from.ensures c.from-2.ensures c.from-3.ensures refl c.mix.ensures

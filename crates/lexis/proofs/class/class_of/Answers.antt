@@ -4,4 +4,4 @@ use Rattle.lexis.proofs.Table.{class-at}
 use Rattle.lexis.proofs.class.class_of.Goals as goal
 
 pub returns : goal.returns
-returns c = class-at c.args.classes.now c.requires c.args.b (search rules)
+returns c = class-at _ c.table.ensures c.args.b (search rules)

@@ -1,27 +1,17 @@
-use mathlib.Core.Path.{◌≡◌, refl, ap}
-use Prim.Native.Nat.{ℕ, ◌-◌}
+-- The bytes 10 are counted.
+use mathlib.Core.Path.{◌≡◌, ap}
+use mathlib.Core.Bool.{cond}
+use mathlib.Core.List.{List}
+use Prim.Native.Nat.{ℕ, suc, ◌+◌}
 use native.Mathlib.Omega.{arith}
-use lib.ListN.{take, drop}
+use Rattle.std.proofs.Common.{eqb, refl, rules}
+use Rattle.std.proofs.lemmas.List.Recursion.{is_count_by}
 use Rattle.lexis.specs.Line.{line_feeds}
-use Rattle.lexis.proofs.Lines.{feeds-feed, feeds-other, feeds-none}
 use Rattle.lexis.proofs.lent.line_at.Goals as goal
-use Rattle.lexis.proofs.lent.line_at.Goals.{then-text-i-eq10, else-text-i-eq10}
-
-pub loop-i-init : goal.loop-i-init
-loop-i-init c = (c.requires.line_bound, refl)
-
-pub loop-i-preserved : goal.loop-i-preserved
-loop-i-preserved c = let l = c.loop-i.invariant in
-    let h = c.loop-i-test.true in
-    let s = c.args.text.now in
-    elim c.if-text-i-eq10.branch [
-      | then-text-i-eq10 w ↦
-          (omega (arith, w.there-is, l.0), omega (arith, w.there-is, l.1, feeds-feed s c.loop-i.i c.args.to h c.requires.to_in_bounds.0 w.if-text-i-eq10.true))
-      | else-text-i-eq10 w ↦
-          (omega (arith, w.there-is, l.0), omega (arith, w.there-is, l.1, feeds-other s c.loop-i.i c.args.to h c.requires.to_in_bounds.0 w.if-text-i-eq10.false))
-    ]
 
 pub returns : goal.returns
-returns c = let rest = drop c.loop-i.i c.args.text.now in
-    let none : c.args.to - c.loop-i.i ≡ 0 = omega arith in
-    omega (arith, c.loop-i.invariant.1, ap (λ (d : ℕ). line_feeds (take d rest)) none, feeds-none rest)
+unfolding line_feeds
+returns c = search (rules, is_count_by line_feeds (λ x. eqb x 10) refl more)
+  where
+    more : (x : ℕ) (s : List ℕ) → cond (eqb x 10) (suc (line_feeds s)) (line_feeds s) ≡ cond (eqb x 10) (1 + line_feeds s) (line_feeds s)
+    more x s = let one : suc (line_feeds s) ≡ 1 + line_feeds s = omega arith in ap (λ (n : ℕ). cond (eqb x 10) n (line_feeds s)) one

@@ -18,9 +18,9 @@ pub overflow_add-from-2 : goal.overflow_add-from-2
 overflow_add-from-2 c = omega (arith, c.sign_len-sign.ensures, sign_small (drop (c.args.at + 1) c.args.text.now))
 
 pub returns-then-end-from : goal.returns-then-end-from
-returns-then-end-from c = exp-bare c.args.text.now c.args.at _ _ c.sign_len-sign.ensures c.run_end-end.ensures
+returns-then-end-from c = exp-bare c.args.text.now c.args.at _ _ c.sign_len-sign.ensures c.digits_end-end.ensures
     (ap is_e (sym c.byte_at-b.ensures) ∙ sym c.is_e.ensures ∙ c.if-not-is_e.false) c.if-end-from.true
 
 pub returns : goal.returns
-returns c = exp-some c.args.text.now c.args.at _ _ c.sign_len-sign.ensures c.run_end-end.ensures
+returns c = exp-some c.args.text.now c.args.at _ _ c.sign_len-sign.ensures c.digits_end-end.ensures
     (ap is_e (sym c.byte_at-b.ensures) ∙ sym c.is_e.ensures ∙ c.if-not-is_e.false) c.if-end-from.false

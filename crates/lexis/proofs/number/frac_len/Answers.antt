@@ -7,9 +7,9 @@ pub returns-then-byte_at-ne46 : goal.returns-then-byte_at-ne46
 returns-then-byte_at-ne46 c = frac-none c.args.text.now c.args.at (λ e. c.if-byte_at-ne46.true (c.byte_at.ensures ∙ e))
 
 pub returns-then-end-from : goal.returns-then-end-from
-returns-then-end-from c = frac-bare c.args.text.now c.args.at _ (sym c.byte_at.ensures ∙ c.if-byte_at-ne46.false) c.run_end-end.ensures
+returns-then-end-from c = frac-bare c.args.text.now c.args.at _ (sym c.byte_at.ensures ∙ c.if-byte_at-ne46.false) c.digits_end-end.ensures
     c.if-end-from.true
 
 pub returns : goal.returns
-returns c = frac-some c.args.text.now c.args.at _ (sym c.byte_at.ensures ∙ c.if-byte_at-ne46.false) c.run_end-end.ensures
+returns c = frac-some c.args.text.now c.args.at _ (sym c.byte_at.ensures ∙ c.if-byte_at-ne46.false) c.digits_end-end.ensures
     c.if-end-from.false

@@ -1,11 +1,20 @@
--- One law of `Terminals` for each answer.
-use mathlib.Core.Path.{ap, ◌∙◌}
-use Prim.Native.Nat.{ℕ, ◌+◌}
-use Rattle.lexis.proofs.Terminals.{mark-is, sum_is}
+-- A kind with one terminal, or the terminal of its spelling.
+use mathlib.Core.Path.{sym, ap, ◌∙◌}
+use Prim.Native.Nat.{◌-◌}
+use lib.ListN.{take, drop}
+use Rattle.lexis.specs.Kind.{kind_number}
+use Rattle.lexis.specs.Symbol.{symbol_of}
+use Rattle.lexis.specs.declared.kind.Kind.{Kind}
+use Rattle.lexis.proofs.Terminals.{mark-is}
 use Rattle.lexis.proofs.symbol.symbol_of.Goals as goal
 
-pub returns-then-kind-eq-SYNTACTIC : goal.returns-then-kind-eq-SYNTACTIC
-returns-then-kind-eq-SYNTACTIC c = c.wide.ensures ∙ mark-is c.args.text.now _ c.args.start c.args.end c.if-kind-eq-SYNTACTIC.true c.requires.start_lt_end
+pub returns-in-Keyword : goal.returns-in-Keyword
+unfolding symbol_of
+returns-in-Keyword c = c.keyword.ensures ∙ ap (λ (k : Kind). symbol_of (kind_number k) (take (c.args.end - c.args.start) (drop c.args.start c.args.text.now))) (sym c.in-Keyword.is)
 
-pub returns : goal.returns
-returns c = ap (λ (x : ℕ). 256 + x) c.wide-2.ensures ∙ sum_is _ _ c.requires.kind c.if-kind-eq3.false c.if-kind-eq-SYNTACTIC.false
+pub returns-in-Operator : goal.returns-in-Operator
+unfolding symbol_of
+returns-in-Operator c = c.symbol_if.ensures ∙ ap (λ (k : Kind). symbol_of (kind_number k) (take (c.args.end - c.args.start) (drop c.args.start c.args.text.now))) (sym c.in-Operator.is)
+
+pub returns-in-Syntactic : goal.returns-in-Syntactic
+returns-in-Syntactic c = c.from.ensures ∙ mark-is c.args.text.now _ c.args.start c.args.end (ap kind_number c.in-Syntactic.is) c.requires.start_lt_end

@@ -1,18 +1,16 @@
 -- The number that the index has for the name.
-use mathlib.Core.Path.{sym, ◌∙◌}
-use native.Mathlib.Omega.{arith}
+use mathlib.Core.Path.{◌∙◌}
 use Rattle.syntax.specs.Table.{token_at}
 use Rattle.lists.specs.Found.{found}
-use Rattle.lists.proofs.NameMarks.{looked-up, found_none, found_some}
+use Rattle.lists.proofs.NameMarks.{looked-up, found-none, found-some}
 use Rattle.lists.proofs.directory.find.Goals as goal
 
-pub look_up-k-requires : goal.look_up-k-requires
-look_up-k-requires c = record { holds = c.requires.holds; walkable = c.requires.walkable; field_lt_name_words = omega arith }
-
-pub returns-then-k-eq0 : goal.returns-then-k-eq0
-returns-then-k-eq0 c = let t = token_at c.args.dtext.now c.args.dtable.now c.args.t in
-    λ k hs m. found_none (found hs t) (sym (looked-up hs t (rw c.bytes_at.ensures at c.look_up-k.ensures) m) ∙ c.if-k-eq0.true)
+pub returns-in_err-k : goal.returns-in_err-k
+returns-in_err-k c = λ k hs m.
+    let t = token_at c.args.doc.now.text.now c.args.doc.now.table.now c.args.t in
+    c.from_residual.ensures ∙ found-none (found hs t) (looked-up hs t (rw c.bytes_at.ensures at c.in_err-k.ensures.looks_up) m)
 
 pub returns : goal.returns
-returns c = let t = token_at c.args.dtext.now c.args.dtable.now c.args.t in
-    λ k hs m. found_some (found hs t) _ (sym (looked-up hs t (rw c.bytes_at.ensures at c.look_up-k.ensures) m)) c.if-k-eq0.false
+returns c = λ k hs m.
+    let t = token_at c.args.doc.now.text.now c.args.doc.now.table.now c.args.t in
+    found-some (found hs t) _ (looked-up hs t (rw c.bytes_at.ensures at c.in_ok-k.ensures.looks_up) m) c.in_ok-k.ensures.nonzero

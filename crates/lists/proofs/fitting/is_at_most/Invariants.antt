@@ -1,12 +1,9 @@
--- The number that all digits spell is the one that those from i on spell after v, and v is within the limit.
+-- The number that all digits spell is the one that those that are left spell after v, and v is within the limit.
 use mathlib.Core.Path.{◌≡◌}
-use Prim.Native.Nat.{◌-◌, ◌≤◌}
-use lib.ListN.{length, drop}
+use Prim.Native.Nat.{◌≤◌}
+use lib.ListN.{drop}
 use Rattle.lexis.specs.Number.{value_from}
 use Rattle.lists.proofs.fitting.is_at_most.Given as goal
 
-abbrev pub invariant-loop-i : goal.invariant-loop-i
-invariant-loop-i l = (l.v ≤ l.bound) × (value_from 0 l.w ≡ value_from l.v (drop l.i l.w))
-
-abbrev pub decreases-loop-i : goal.decreases-loop-i
-decreases-loop-i l = length l.w - l.i
+abbrev pub invariant-loop-b : goal.invariant-loop-b
+invariant-loop-b l = (l.v ≤ l.bound) × (value_from 0 l.w ≡ value_from l.v (drop l.b-index l.w))

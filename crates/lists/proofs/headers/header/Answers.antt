@@ -13,17 +13,21 @@ overflow_add-q c = omega (arith, c.requires.ready_2.inside, c.requires.ready_2.s
 
 pub operation-again-requires : goal.operation-again-requires
 operation-again-requires c = record {
-  holds = c.requires.ready_2.held;
-  i_lt_n = (omega (arith, header-inside c.requires.ready_2 c.requires.reads), c.requires.ready_2.small, omega (arith, c.requires.ready_2.numbered, c.requires.ready_2.inside));
+  i_lt_n = (
+    omega (arith, header-inside c.requires.ready_2 c.requires.reads),
+    c.requires.ready_2.small,
+    omega
+        (arith, c.requires.ready_2.numbered, c.requires.ready_2.inside),
+  );
   walkable_2 = walks-wider (omega arith)
       c.requires.ready_2.names;
 }
 
 pub start_at-requires : goal.start_at-requires
-start_at-requires c = omega (arith, c.requires.ready_2.held.room, header-inside c.requires.ready_2 c.requires.reads)
+start_at-requires c = omega (arith, c.args.tokens.now.holds.room, header-inside c.requires.ready_2 c.requires.reads)
 
 pub start_at-requires-2 : goal.start_at-requires-2
-start_at-requires-2 c = omega (arith, c.requires.ready_2.held.room, header-inside c.requires.ready_2 c.requires.reads)
+start_at-requires-2 c = omega (arith, c.args.tokens.now.holds.room, header-inside c.requires.ready_2 c.requires.reads)
 
 pub overflow_add-k : goal.overflow_add-k
 overflow_add-k c = omega (arith, c.requires.ready_2.numbered, c.requires.ready_2.inside, c.requires.ready_2.small)
@@ -48,11 +52,15 @@ overflow_add-k-2 c = omega (arith, c.requires.ready_2.numbered, c.requires.ready
 
 pub results-rs-requires : goal.results-rs-requires
 results-rs-requires c = let P = rw c.empty.ensures at c.parameters-ps.ensures.meaning in
-    record { ready_2 = rw c.empty-2.ensures (results-ready c.requires.ready_2 c.requires.reads c.parameters-ps.ensures.ready P); reads = rw c.empty-2.ensures (results-reads c.requires.ready_2 c.requires.reads c.parameters-ps.ensures.ready P) }
+    record {
+      ready_2 = rw c.empty-2.ensures (results-ready c.requires.ready_2 c.requires.reads c.parameters-ps.ensures.ready P);
+      reads = rw
+          c.empty-2.ensures (results-reads c.requires.ready_2 c.requires.reads c.parameters-ps.ensures.ready P);
+    }
 
 pub result_code-code-requires : goal.result_code-code-requires
 result_code-code-requires c = let P = rw c.empty.ensures at c.parameters-ps.ensures.meaning in
-    record { holds = c.requires.ready_2.held; n_le_max_tokens = (c.requires.ready_2.small, results-inside c.requires.ready_2 c.requires.reads c.parameters-ps.ensures.ready P) }
+    (c.requires.ready_2.small, results-inside c.requires.ready_2 c.requires.reads c.parameters-ps.ensures.ready P)
 
 pub overflow_cast-q : goal.overflow_cast-q
 overflow_cast-q c = omega (arith, c.requires.ready_2.inside, c.requires.ready_2.small)
@@ -79,8 +87,9 @@ shape_of-words c = c.store_operation.auto.words ∙ c.parameters-ps.auto.words
 pub returns : goal.returns
 returns c = rw c.empty-3.ensures (record {
   ready = header-ready c.results-rs.result.best c.results-rs.ensures.ready;
-  meaning = header_read c.args.text.now c.args.table.now c.args.index.now c.operation-again.new.index c.parameters-ps.new.index c.results-rs.new.index
-      c.args.words.now c.parameters-ps.new.words c.store_operation.new.words c.args.n c.args.k c.args.row
+  meaning = header_read c.args.tokens.now.text.now c.args.tokens.now.table.now c.args.index.now c.operation-again.new.index c.parameters-ps.new.index
+      c.results-rs.new.index
+      c.args.words.now c.parameters-ps.new.words c.store_operation.new.words c.args.tokens.now.count c.args.k c.args.row
       c.parameters-ps.result c.results-rs.result c.operation-again.result
       c.or_if-best.result c.result_code-code.result c.operation-again.ensures.meaning (rw c.empty.ensures at c.parameters-ps.ensures.meaning)
       (rw c.empty-2.ensures at c.results-rs.ensures.meaning)

@@ -1,13 +1,15 @@
-use Rattle.lists.specs.Best.{meant}
-use Rattle.lists.proofs.Defaults.{place_in}
+use mathlib.Core.Path.{ap, ◌∙◌}
 use native.Mathlib.Omega.{arith}
-use mathlib.Core.Path.{refl}
+use Rattle.std.proofs.Math.Option.{some}
+use Rattle.lists.specs.Fault.{fault}
+use Rattle.lists.proofs.Defaults.{place_in}
 use Rattle.lists.proofs.headers.misfit_at.Goals as goal
 
-pub overflow_cast-result : goal.overflow_cast-result
-overflow_cast-result c = let p = place_in c.args.text.now c.args.table.now c.args.n c.args.i c.requires.holds in
-    omega (arith, c.place_at.ensures, c.requires.text_len_bound)
+pub overflow_cast-place_at : goal.overflow_cast-place_at
+overflow_cast-place_at c =
+    let s = c.args.tokens.now in
+    let p = place_in s.text.now s.table.now s.count c.args.i s.holds in
+    omega (arith, c.place_at.ensures, c.requires)
 
 pub returns : goal.returns
-unfolding meant
-returns c = rw c.place_at.ensures refl
+returns c = c.one.ensures ∙ ap (λ p. some (fault _ p)) c.place_at.ensures

@@ -7,13 +7,18 @@ use Rattle.lists.proofs.RowWalks.{two-tests, result-read}
 use Rattle.lists.proofs.headers.result.Goals as goal
 
 pub named-again-requires : goal.named-again-requires
-named-again-requires c = record { holds = c.requires.ready.held; i_lt_n = (c.requires.at_lt_n, c.requires.ready.small, omega (arith, c.requires.ready.numbered, c.requires.at_lt_n)); walkable_2 = c.requires.ready.names }
-
-pub type_of-ty-requires : goal.type_of-ty-requires
-type_of-ty-requires c = c.requires.ready.held
+named-again-requires c = record {
+  i_lt_n = (
+    c.requires.at_lt_n,
+    c.requires.ready.small,
+    omega
+        (arith, c.requires.ready.numbered, c.requires.at_lt_n),
+  );
+  walkable_2 = c.requires.ready.names;
+}
 
 pub start_at-place-requires : goal.start_at-place-requires
-start_at-place-requires c = omega (arith, c.requires.ready.held.room, c.requires.at_lt_n)
+start_at-place-requires c = omega (arith, c.args.tokens.now.holds.room, c.requires.at_lt_n)
 
 pub overflow_add-result : goal.overflow_add-result
 overflow_add-result c = omega (arith, c.requires.ready.counted, c.requires.ready.small, c.requires.at_lt_n)

@@ -7,12 +7,11 @@ use Rattle.lists.proofs.headers.result_code.Goals as goal
 pub returns-then-count-ne1 : goal.returns-then-count-ne1
 returns-then-count-ne1 c = λ rs us h l. several-are rs (λ z. c.if-count-ne1.true (l ∙ z))
 
-pub type_of-requires : goal.type_of-requires
-type_of-requires c = c.requires.holds
-
 pub code-requires : goal.code-requires
-code-requires c = (c.type_of.ensures.range.kinds, omega (arith, c.type_of.ensures.range.pairs, c.requires.n_le_max_tokens.0))
+code-requires c = (c.type_of.ensures.range.kinds, omega (arith, c.type_of.ensures.range.pairs, c.requires.0))
 
 pub returns : goal.returns
-returns c = λ rs us h l. one-is c.args.text.now c.args.table.now c.args.n c.args.from h (sym l ∙ c.if-count-ne1.false)
+returns c =
+    let s = c.args.tokens.now in
+    λ rs us h l. one-is s.text.now s.table.now s.count c.args.at h (sym l ∙ c.if-count-ne1.false)
     c.type_of.ensures.meaning c.code.ensures

@@ -4,7 +4,7 @@ use Rattle.lists.proofs.RowWalks.{ResultsFrom}
 use Rattle.lists.proofs.headers.results.Given as goal
 
 abbrev pub invariant-loop-r : goal.invariant-loop-r
-invariant-loop-r l = ResultsFrom l.text l.table l.n l.k l.initial.index l.initial.r l.index l.r
+invariant-loop-r l = ResultsFrom l.tokens.text.now l.tokens.table.now l.tokens.count l.k l.initial.index l.initial.r l.index l.r
 
 abbrev pub decreases-loop-r : goal.decreases-loop-r
-decreases-loop-r l = l.n - l.r.at
+decreases-loop-r l = l.tokens.count - l.r.at

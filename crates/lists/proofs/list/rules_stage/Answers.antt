@@ -4,11 +4,19 @@ use Rattle.lists.proofs.RowWalks.{roomy-kept}
 use Rattle.lists.proofs.list.rules_stage.Goals as goal
 
 pub headers-ruled-requires : goal.headers-ruled-requires
-headers-ruled-requires c = record { ready = walk-ready c.requires.list_read c.requires.text_len_bound.0 c.requires.text_len_bound.1 c.requires.served; roomy = c.requires.served.roomy; reads = record { tree = c.requires.list_read.headers; left = _; is = c.requires.list_read.parsed } }
-
-pub returns-then-best-eq-ACCEPTED : goal.returns-then-best-eq-ACCEPTED
-returns-then-best-eq-ACCEPTED c = rules-pass c.requires.list_read c.requires.served c.headers-ruled.result c.headers-ruled.ensures.meaning (roomy-kept c.headers-ruled.auto.words c.requires.served.roomy) c.headers-ruled.ensures.walkable
-    c.requires.text_len_bound.1 c.headers-ruled.ensures.few c.if-best-eq-ACCEPTED.true
+headers-ruled-requires c = record {
+  ready = walk-ready c.requires.list_read c.requires.text_len_bound.0 c.requires.text_len_bound.1
+      c.requires.served;
+  roomy = c.requires.served.roomy;
+  reads = record
+      { tree = c.requires.list_read.headers; left = _; is = c.requires.list_read.parsed };
+}
 
 pub returns : goal.returns
-returns c = rules-stop c.requires.list_read c.requires.served c.headers-ruled.result c.headers-ruled.ensures.meaning c.if-best-eq-ACCEPTED.false
+returns c = rules-pass c.requires.list_read c.requires.served c.headers-ruled.result c.headers-ruled.ensures.meaning
+    (roomy-kept c.headers-ruled.auto.words c.requires.served.roomy) c.headers-ruled.ensures.walkable
+    c.requires.text_len_bound.1 c.headers-ruled.ensures.few c.in_default.is
+
+pub returns-in-Some : goal.returns-in-Some
+returns-in-Some c = rw c.refused.ensures
+    (rules-stop c.requires.list_read c.requires.served c.headers-ruled.result c.headers-ruled.ensures.meaning c.in-Some.is)

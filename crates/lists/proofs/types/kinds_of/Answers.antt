@@ -25,4 +25,8 @@ unfolding word_kinds
 returns-in-266 c = (omega arith, sym (ap word_kinds c.in-266.is))
 
 pub returns-in_default : goal.returns-in_default
-returns-in_default c = (omega arith, no-kinds c.args.s c.in_default.in_default-own.rest.0.0.0.0.1 c.in_default.in_default-own.rest.0.0.0.1 c.in_default.in_default-own.rest.0.0.1 c.in_default.in_default-own.rest.0.1 c.in_default.in_default-own.rest.1)
+returns-in_default c = (
+  omega arith,
+  no-kinds c.args.s c.in_default.in_default-own.rest.0.0.0.0.1 c.in_default.in_default-own.rest.0.0.0.1
+      c.in_default.in_default-own.rest.0.0.1 c.in_default.in_default-own.rest.0.1 c.in_default.in_default-own.rest.1,
+)

@@ -2,16 +2,15 @@
 -- Assumes nothing.
 use mathlib.Core.Path.{◌≡◌}
 use Prim.Native.Nat.{◌-◌}
-use lib.ListN.{length}
 use Rattle.lexis.specs.Sizes.{max_brackets}
-use Rattle.syntax.specs.Table.{toks, parsed}
+use Rattle.syntax.specs.Tokens.{answer}
 use Rattle.syntax.specs.Parser.{row, plain, closed, call}
 use Rattle.lexis.specs.Symbol.{right_curly}
 use Rattle.syntax.proofs.graph.body.Given as goal
 
-abbrev pub invariant-loop-next : goal.invariant-loop-next
-invariant-loop-next l = parsed (length l.text) l.n (row plain (closed right_curly) (call max_brackets) (toks l.text l.table l.n l.at)) ≡ parsed (length l.text) l.n
-    (row plain (closed right_curly) (call max_brackets) (toks l.text l.table l.n l.i))
+abbrev pub invariant-loop-i : goal.invariant-loop-i
+invariant-loop-i l =
+    answer l.tokens (row plain (closed right_curly) (call max_brackets)) l.at ≡ answer l.tokens (row plain (closed right_curly) (call max_brackets)) l.i
 
-abbrev pub decreases-loop-next : goal.decreases-loop-next
-decreases-loop-next l = l.n - l.i
+abbrev pub decreases-loop-i : goal.decreases-loop-i
+decreases-loop-i l = l.tokens.count - l.i

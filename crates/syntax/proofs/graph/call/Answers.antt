@@ -1,33 +1,40 @@
 -- `graph::call` meets its contract: its steps are those of `call-is`. Assumes nothing.
-use lib.ListN.{length}
-use Rattle.syntax.specs.Inner.{reader}
-use Rattle.syntax.specs.Table.{toks}
-use Rattle.syntax.specs.Parser.{row, plain, commas}
-use Rattle.lexis.specs.Symbol.{right_round}
-use Rattle.syntax.specs.declared.list.Item.TheVariants.{Argument}
 use Rattle.syntax.proofs.Graphs.{call-is}
-use Rattle.syntax.proofs.Chain.{fell, went, onto, step-reaches}
+use Rattle.syntax.proofs.Chain.{exits, by_law, goes, stops, reaches}
 use Rattle.syntax.proofs.graph.call.Goals as goal
 
-pub returns-in_default : goal.returns-in_default
-returns-in_default c = fell _
-    (onto _ c.then_list-arguments.ensures
-    (onto _ c.then_expect-bracket.ensures
-    (onto _ c.then_expect-name.ensures c.items-left.ensures)))
-    (call-is c.args.text.now c.args.table.now (length c.args.text.now) c.args.n c.args.at) c.in_default.is
+pub returns-in_err-name : goal.returns-in_err-name
+returns-in_err-name c =
+    exits c.args.tokens.now _ _ c.from_residual.ensures.1
+    (by_law (call-is c.args.tokens.now c.args.at) (stops _ c.in_err-name.ensures))
+
+pub returns-in_err-bracket : goal.returns-in_err-bracket
+returns-in_err-bracket c =
+    exits c.args.tokens.now _ _ c.from_residual-in_err-bracket.ensures.1
+    (by_law (call-is c.args.tokens.now c.args.at) (goes _ c.in_ok-name.ensures (stops _ c.in_err-bracket.ensures)))
+
+pub returns-in_err-arguments : goal.returns-in_err-arguments
+returns-in_err-arguments c =
+    exits c.args.tokens.now _ _ c.from_residual-in_err-arguments.ensures.1
+    (by_law (call-is c.args.tokens.now c.args.at) (goes _ c.in_ok-name.ensures (goes _ c.in_ok-bracket.ensures (stops _ c.in_err-arguments.ensures))))
+
+pub returns-in_err-end : goal.returns-in_err-end
+returns-in_err-end c =
+    exits c.args.tokens.now _ _ c.from_residual-in_err-end.ensures.1
+    (by_law (call-is c.args.tokens.now c.args.at)
+    (goes _ c.in_ok-name.ensures
+    (goes _ c.in_ok-bracket.ensures
+    (goes _ c.in_ok-arguments.ensures
+    (stops _ c.in_err-end.ensures)))))
 
 pub semicolon-requires : goal.semicolon-requires
-semicolon-requires c = record {
-  holds = c.requires;
-  at_le_n = step-reaches (length c.args.text.now) c.args.n c.then_expect-bracket.result
-      (λ j. row plain (commas right_round) (reader Argument) (toks c.args.text.now c.args.table.now c.args.n j)) c.then_list-arguments.ensures
-      c.in-Done.is;
-}
+semicolon-requires c = reaches _ _ c.in_ok-end.ensures
 
 pub returns : goal.returns
-returns c = went _
-    (onto _ c.then_list-arguments.ensures
-    (onto _ c.then_expect-bracket.ensures
-    (onto _ c.then_expect-name.ensures
-    c.items-left.ensures)))
-    (call-is c.args.text.now c.args.table.now (length c.args.text.now) c.args.n c.args.at) c.in-Done.is c.semicolon.ensures
+returns c =
+    by_law (call-is c.args.tokens.now c.args.at)
+    (goes _ c.in_ok-name.ensures
+    (goes _ c.in_ok-bracket.ensures
+    (goes _ c.in_ok-arguments.ensures
+    (goes _ c.in_ok-end.ensures
+    c.semicolon.ensures))))

@@ -1,23 +1,16 @@
--- `list::parameter` meets its contract: a result and a default. Assumes nothing.
-use lib.ListN.{length}
+-- `list::parameter` meets its contract: its steps are those of `param_is`. Assumes nothing.
 use Rattle.lexis.specs.Sizes.{max_brackets}
-use Rattle.syntax.specs.Table.{toks}
-use Rattle.syntax.specs.Parser.{typed_name}
 use Rattle.syntax.proofs.Lists.{param_is}
-use Rattle.syntax.proofs.Chain.{fell, went, reaches}
+use Rattle.syntax.proofs.Chain.{exits, by_law, goes, stops, reaches}
 use Rattle.syntax.proofs.list.parameter.Goals as goal
 
-pub returns-in_default : goal.returns-in_default
-returns-in_default c = fell _ c.result-typed.ensures (param_is c.args.text.now c.args.table.now (length c.args.text.now) c.args.n c.args.at max_brackets)
-    c.in_default.is
+pub returns-in_err-next : goal.returns-in_err-next
+returns-in_err-next c =
+    exits c.args.tokens.now _ _ c.from_residual.ensures.1
+    (by_law (param_is c.args.tokens.now c.args.at max_brackets) (stops _ c.in_err-next.ensures))
 
 pub default-requires : goal.default-requires
-default-requires c = record {
-  holds = c.requires;
-  at_le_n = reaches (length c.args.text.now) c.args.n (typed_name max_brackets (toks c.args.text.now c.args.table.now c.args.n c.args.at))
-      c.result-typed.ensures c.in-Done.is;
-}
+default-requires c = reaches _ _ c.in_ok-next.ensures
 
 pub returns : goal.returns
-returns c = went _ c.result-typed.ensures (param_is c.args.text.now c.args.table.now (length c.args.text.now) c.args.n c.args.at max_brackets)
-    c.in-Done.is c.default.ensures
+returns c = by_law (param_is c.args.tokens.now c.args.at max_brackets) (goes _ c.in_ok-next.ensures c.default.ensures)

@@ -2,14 +2,13 @@
 -- tokens left. Assumes nothing.
 use mathlib.Core.Path.{◌≡◌}
 use Prim.Native.Nat.{◌-◌}
-use lib.ListN.{length}
 use Rattle.lexis.specs.Sizes.{max_brackets}
-use Rattle.syntax.specs.Table.{toks, parsed}
+use Rattle.syntax.specs.Tokens.{answer}
 use Rattle.syntax.specs.Parser.{operations}
 use Rattle.syntax.proofs.operations.list_syntax.Given as goal
 
 abbrev pub invariant-loop-i : goal.invariant-loop-i
-invariant-loop-i l = parsed (length l.text) l.n (operations max_brackets (toks l.text l.table l.n 0)) ≡ parsed (length l.text) l.n (operations max_brackets (toks l.text l.table l.n l.i))
+invariant-loop-i l = answer l.tokens (operations max_brackets) 0 ≡ answer l.tokens (operations max_brackets) l.i
 
 abbrev pub decreases-loop-i : goal.decreases-loop-i
-decreases-loop-i l = l.n - l.i
+decreases-loop-i l = l.tokens.count - l.i

@@ -2,29 +2,26 @@
 -- the same place. The invariant of the loop of `type_items`: from `i` on the row answers what it answers from `at` on. Assumes nothing.
 use mathlib.Core.Path.{◌≡◌}
 use Prim.Native.Nat.{◌≤◌, ◌+◌, ◌-◌, ◌*◌}
-use lib.ListN.{length}
-use Rattle.syntax.specs.Table.{toks, parsed}
+use Rattle.syntax.specs.Tokens.{answer}
 use Rattle.syntax.specs.Parser.{type, types, commas, row}
 use Rattle.lexis.specs.Symbol.{right_round}
 use Rattle.syntax.proofs.types.+base_tuple_type_type_at_type_items.Given as goal
 
 abbrev pub decreases-base : goal.decreases-base
-decreases-base l = 3 * (l.n - l.at) + 0
+decreases-base l = 3 * (l.tokens.now.count - l.at) + 0
 
 abbrev pub decreases-tuple_type : goal.decreases-tuple_type
-decreases-tuple_type l = 3 * (l.n - l.at) + 2
+decreases-tuple_type l = 3 * (l.tokens.now.count - l.at) + 2
 
 abbrev pub decreases-type_at : goal.decreases-type_at
-decreases-type_at l = 3 * (l.n - l.at) + 1
+decreases-type_at l = 3 * (l.tokens.now.count - l.at) + 1
 
 abbrev pub decreases-type_items : goal.decreases-type_items
-decreases-type_items l = 3 * (l.n - l.at) + 2
+decreases-type_items l = 3 * (l.tokens.now.count - l.at) + 2
 
 abbrev pub invariant-type_items-loop-next : goal.invariant-type_items-loop-next
 invariant-type_items-loop-next l = (l.at ≤ l.i)
-    ×
-    (parsed (length l.text) l.n (row types (commas right_round) (type l.room) (toks l.text l.table l.n l.at)) ≡ parsed (length l.text) l.n
-    (row types (commas right_round) (type l.room) (toks l.text l.table l.n l.i)))
+    × (answer l.tokens (row types (commas right_round) (type l.room)) l.at ≡ answer l.tokens (row types (commas right_round) (type l.room)) l.i)
 
 abbrev pub decreases-type_items-loop-next : goal.decreases-type_items-loop-next
-decreases-type_items-loop-next l = l.n - l.i
+decreases-type_items-loop-next l = l.tokens.count - l.i

@@ -3,5 +3,5 @@ use Rattle.writing.proofs.Putting.{puts_then}
 use Rattle.writing.proofs.call.put_operation.Goals as goal
 
 pub returns : goal.returns
-returns c = puts_then (c.put_mark-equal.ensures Kind.syntactic)
-    (puts_then (c.put_token-named.ensures Kind.name) (c.put_mark.ensures Kind.syntactic))
+returns c = puts_then (c.put_mark.ensures Kind.syntactic)
+    (puts_then (c.put_token.ensures Kind.name) (c.put_mark-2.ensures Kind.syntactic))

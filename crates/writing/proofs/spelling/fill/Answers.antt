@@ -22,4 +22,7 @@ pub shape_of-buffer : goal.shape_of-buffer
 shape_of-buffer c = length-set c.loop-rest.buffer c.loop-rest.i _ ∙ c.loop-rest.invariant.1 ∙ sym c.requires
 
 pub returns : goal.returns
-returns c = record { range = c.loop-rest.invariant.0; digits = filled-all c.loop-rest-test.false c.loop-rest.invariant.0 c.loop-rest.invariant.1 c.loop-rest.invariant.2 }
+returns c = record {
+  range = c.loop-rest.invariant.0;
+  digits = filled-all c.loop-rest-test.false c.loop-rest.invariant.0 c.loop-rest.invariant.1 c.loop-rest.invariant.2;
+}

@@ -16,7 +16,8 @@ pub slice_bounds-put_word-start : goal.slice_bounds-put_word-start
 slice_bounds-put_word-start c = omega (arith, c.zeros-from.ensures.within)
 
 pub returns : goal.returns
-returns c = λ d. let all = take_all (length c.args.word.now - c.zeros-from.result) (drop c.zeros-from.result c.args.word.now) (omega (arith, length-drop c.zeros-from.result c.args.word.now)) in
+returns c = λ d. let all = take_all (length c.args.word.now - c.zeros-from.result) (drop c.zeros-from.result c.args.word.now)
+    (omega (arith, length-drop c.zeros-from.result c.args.word.now)) in
     let own = all ∙ digits-kept c.args.word.now c.zeros-from.result d c.zeros-from.ensures in
     let nought = c.is_zero.ensures ∙ zero-first c.args.word.now c.zeros-from.result d c.zeros-from.ensures in
-    puts-extent c.args.negative _ (value_from 0 c.args.word.now) nought c.put_sign-sign.ensures (λ k. rw own at (c.put_word.ensures k))
+    puts-extent c.args.negative _ (value_from 0 c.args.word.now) nought c.put_sign.ensures (λ k. rw own at (c.put_word.ensures k))

@@ -4,14 +4,14 @@ use Rattle.writing.proofs.Spelled.{held-is, reduced-near, reduced-is, reduced-so
 use Rattle.writing.proofs.spelling.put_number.Goals as goal
 
 pub put_signed-requires : goal.put_signed-requires
-put_signed-requires c = let near = reduced-near c.args.word.now (sym c.reduce.ensures ∙ c.in-Number.is) in
+put_signed-requires c = let near = reduced-near c.args.word.now (sym c.reduce.ensures ∙ c.in-Some.is) in
     rw (held-is _ near) near
 
-pub returns-in-Number : goal.returns-in-Number
-returns-in-Number c = λ ok. rw
+pub returns-in-Some : goal.returns-in-Some
+returns-in-Some c = λ ok. rw
     (reduced-is c.args.word.now
-    (sym c.reduce.ensures ∙ c.in-Number.is))
+    (sym c.reduce.ensures ∙ c.in-Some.is))
     c.put_signed.ensures
 
-pub returns-in-OutOfRange : goal.returns-in-OutOfRange
-returns-in-OutOfRange c = λ ok. absurd (reduced-some c.args.word.now ok (sym c.reduce.ensures ∙ c.in-OutOfRange.is))
+pub returns-in_default : goal.returns-in_default
+returns-in_default c = λ ok. absurd (reduced-some c.args.word.now ok (sym c.reduce.ensures ∙ c.in_default.is))

@@ -1,27 +1,16 @@
-use mathlib.Core.Path.{refl, sym, ◌∙◌}
+-- The last digit stays, whatever it is.
 use native.Mathlib.Omega.{arith}
-use Rattle.writing.proofs.Spelled.{unpadded-next}
+use mathlib.Core.Path.{◌≡◌}
+use Rattle.writing.proofs.Spelled.{zeros-lead}
 use Rattle.writing.proofs.spelling.zeros.Goals as goal
-
-pub loop-i-init : goal.loop-i-init
-loop-i-init c = (omega arith, λ h. h, refl)
-
-pub returns-then-w-i-ne48 : goal.returns-then-w-i-ne48
-returns-then-w-i-ne48 c = record { within = c.loop-i.invariant.0; inside = c.loop-i.invariant.1; same = c.loop-i.invariant.2; leading = λ h e. c.if-w-i-ne48.true e }
-
-pub loop-i-preserved : goal.loop-i-preserved
-loop-i-preserved c = (
-  omega (arith, c.loop-i-test.true),
-  (λ h. omega (arith, c.loop-i-test.true)),
-  sym
-      (unpadded-next c.args.w.now c.loop-i.i (omega (arith, c.loop-i-test.true)) c.if-w-i-ne48.false) ∙ c.loop-i.invariant.2,
-)
 
 pub returns : goal.returns
 returns c = record {
-  within = c.loop-i.invariant.0;
-  inside = c.loop-i.invariant.1;
-  same = c.loop-i.invariant.2;
-  leading = λ h e. absurd
-      (omega (arith, h, c.loop-i-test.false));
+  within = omega (arith, c.min.ensures, c.leading.ensures.within);
+  inside = λ h. omega (arith, h, c.min.ensures, c.saturating_sub.ensures);
+  same = zeros-lead c.args.w.now c.min.result (omega (arith, c.min.ensures, c.leading.ensures.within))
+      (λ k l. c.leading.ensures.zeros k (omega (arith, l, c.min.ensures)));
+  leading = λ h e.
+      let z : c.min.result ≡ c.leading.result = omega (arith, h, c.min.ensures, c.saturating_sub.ensures, c.leading.ensures.within) in
+      c.leading.ensures.ended (omega (arith, h, z)) (rw z at e);
 }

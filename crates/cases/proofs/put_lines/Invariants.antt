@@ -1,9 +1,0 @@
--- The output keeps its length.
-use Rattle.std.proofs.Common.{length, ◌≡◌, ◌-◌}
-use Rattle.cases.proofs.put_lines.Given as goal
-
-abbrev pub invariant-loop-i : goal.invariant-loop-i
-invariant-loop-i l = length l.out ≡ length l.initial.out
-
-abbrev pub decreases-loop-i : goal.decreases-loop-i
-decreases-loop-i l = l.n - l.i

@@ -1,8 +1,0 @@
--- `Parsed::then_list` meets its contract: one case of `onwards` for each arm. Assumes nothing.
-use Rattle.syntax.proofs.Parsed.then_list.Goals as goal
-
-pub returns-in-Done : goal.returns-in-Done
-returns-in-Done c = rw c.in-Done.is c.list.ensures
-
-pub returns-in-Fault : goal.returns-in-Fault
-returns-in-Fault c = rw c.in-Fault.is

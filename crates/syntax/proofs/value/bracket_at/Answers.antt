@@ -1,6 +1,0 @@
--- `value::bracket_at` meets its contract. Assumes nothing.
-use Rattle.syntax.proofs.Reached.{bracket-at}
-use Rattle.syntax.proofs.value.bracket_at.Goals as goal
-
-pub returns : goal.returns
-returns c = bracket-at c.args.text.now c.args.table.now c.args.n c.args.at c.requires.at_le_n
