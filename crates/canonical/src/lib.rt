@@ -4,10 +4,9 @@
 pub mod program;
 mod texts;
 
-ghost use Rattle.std.specs.Prelude.{◌≡◌, ◌≤◌, min, length};
-ghost use Rattle.lexis.specs.Sizes.{max_text, max_tokens, work_words};
+ghost use Rattle.std.specs.Prelude.{◌≡◌, ◌≤◌, length};
+ghost use Rattle.lexis.specs.Sizes.{max_text, work_words};
 ghost use Rattle.lists.specs.Answer.{work_after};
-ghost use Rattle.lists.specs.Stages.{Served};
 ghost use Rattle.documents.specs.Records.{records_words};
 ghost use Rattle.canonical.specs.Answer.{text_stages, canon_room, written, canon_answer, output_after};
 ghost use Rattle.canonical.specs.Inner.{Wrote, WordsServe, TextsKept};
@@ -160,7 +159,7 @@ fn text_stages(
 }
 
 // The operation: after acceptance the output begins with the canonical text of the document. After any answer but a refusal of what is
-// lent both work areas are zero.
+// lent both work areas are zero. Its guards are those of `order`; what they guard differs.
 pub fn canon(
     list: &[u8],
     doc: &[u8],

@@ -19,7 +19,7 @@ fn put_number_then(out: &mut Writer<'_>, n: u32, b: u8)
     out.put_byte(b);
 }
 
-// Stores four numbers from the first byte on, and gives how many bytes they take.
+// Stores four numbers from the first byte on, and gives how many bytes they take. Put by the writer and not by `Display`: the contract of `show` gives their bytes.
 fn put_numbers(out: &mut [u8], a: Answer) -> usize
     ensures value { result ≡ passed 0 (printed a) }
     ensures out_after { out.new ≡ stored out.old 0 (printed a) }

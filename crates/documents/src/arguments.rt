@@ -124,7 +124,7 @@ pub fn value_end(tokens: &Tokens<'_>, v: usize) -> usize
 }
 
 // This refusal at the token at place `at`.
-pub fn fault_at(tokens: &Tokens<'_>, at: usize, refusal: Refusal) -> Best
+pub(crate) fn fault_at(tokens: &Tokens<'_>, at: usize, refusal: Refusal) -> Best
     ensures { at < tokens.now.count → meant result ≡ some (fault (refusal_number refusal) (token_at tokens.now.text.now tokens.now.table.now at).start) }
 {
     if tokens.count <= at {

@@ -4,7 +4,6 @@ ghost use Rattle.std.specs.Prelude.{◌≡◌, ◌+◌, ◌<◌, ◌≤◌, leng
 ghost use Rattle.spellings.specs.Comparison.{same_bytes};
 ghost use Rattle.lexis.specs.Ascii.{ascii};
 ghost use Rattle.syntax.specs.Table.{token_at};
-ghost use Rattle.syntax.specs.Tokens.{from};
 ghost use Rattle.index.specs.Indexed.{Walkable};
 ghost use Rattle.documents.specs.Records.{records_words};
 ghost use Rattle.documents.specs.Sources.{OfLeft, OfStep, OfBody};

@@ -1,5 +1,5 @@
 // All rules of a document under a list that has passed its own.
-ghost use Rattle.std.specs.Prelude.{◌≡◌, [], ◌<◌, ◌≤◌, length};
+ghost use Rattle.std.specs.Prelude.{[], ◌<◌, ◌≤◌, length};
 ghost use Rattle.index.specs.Indexed.{Walkable};
 ghost use Rattle.documents.specs.Naming.{Naming};
 ghost use Rattle.documents.specs.Records.{records_words};

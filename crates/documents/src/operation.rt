@@ -1,6 +1,6 @@
 // The operation of a call, as the directory of the list has it.
 ghost use Rattle.std.specs.Prelude.{◌≡◌, ◌+◌, ◌*◌, ◌<◌, ◌≤◌, length};
-ghost use Rattle.lists.specs.Directory.{operation_word, operation_words, parameter_word, parameter_words, first_parameter};
+ghost use Rattle.lists.specs.Directory.{operation_word, operation_words};
 ghost use Rattle.documents.specs.Tallies.{operation_in};
 ghost use Rattle.documents.specs.Judged.{Readable};
 ghost use Rattle.documents.specs.Callees.{Called};

@@ -44,7 +44,7 @@ pub enum Listed {
 }
 
 impl Listed {
-    // The number of it, as the index has it.
+    // The number of it, as the index has it. A method and no `From`: a trait could not promise its range.
     pub fn number(self) -> usize
         ensures value { result ≡ listed_number self }
         ensures range { (0 < result) × (result < 65536) }

@@ -1,5 +1,6 @@
 // An index of the names of a text: a map from spellings to two words each. A name is found by its spelling and entered on demand. Names stand at places of
-// a token table; chains by a hash lead from the latest place of a chain to the earliest. The index is lent by the caller.
+// a token table; chains by a hash lead from the latest place of a chain to the earliest. The index is lent by the caller,
+// and is a parameter beside the tokens: in one struct, each function that enters a name would have to promise that the tokens stay.
 #![tactic(auto)]
 
 mod chain;

@@ -1,5 +1,5 @@
 // The words of a token table, and the spelling of a token.
-ghost use Rattle.std.specs.Prelude.{◌≡◌, ◌<◌, length, get_or};
+ghost use Rattle.std.specs.Prelude.{◌≡◌, ◌<◌};
 ghost use Rattle.index.specs.Found.{bytes_at};
 
 use lexis::limits::Limits;

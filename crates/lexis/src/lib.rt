@@ -34,7 +34,7 @@ use refusal::{Fault, Refusal};
 use std::fmt;
 use symbol::symbol_of;
 
-// The four numbers of an answer.
+// The four numbers of an answer, as C has them.
 #[repr(C)]
 #[derive(Clone, Copy)]
 pub struct Answer {
@@ -134,7 +134,8 @@ pub fn tokens(text: &[u8], table: &mut [u32]) -> Answer
 }
 
 // The records of a text of at most 16384 bytes, written in front of a work area as they are found, and where it is to be `marked` the
-// terminals of the tokens behind them. On a fault the work area holds anything, and is as long as before.
+// terminals of the tokens behind them. On a fault the work area holds anything, and is as long as before. A flag: two
+// functions with a loop each run at half the speed (measured).
 pub fn lex_into(text: &[u8], work: &mut [u32], marked: bool) -> Result<u32, Fault>
     requires text_len_bound { length text.now ≤ max_text }
     requires text_in_bounds { area_words marked (length text.now) ≤ length work.old }

@@ -1,10 +1,9 @@
 // The shape of a number, and its reduced value.
-ghost use Rattle.std.specs.Prelude.{◌≡◌, ◌+◌, ◌<◌, ◌≤◌, min, pred, length, drop, get_or};
-ghost use Rattle.lexis.specs.Sizes.{max_number, written_end};
-ghost use Rattle.lexis.specs.Shapes.{shape_of, is_short};
-ghost use Rattle.lexis.specs.Number.{frac_len, sign_len, is_e, exp_len, parts_of, parts_len, digits_of, sticks, written_of, minus_of, in_range, reduction_of};
+ghost use Rattle.std.specs.Prelude.{◌≡◌, ◌+◌, ◌<◌, ◌≤◌, length, drop, get_or};
+ghost use Rattle.lexis.specs.Sizes.{max_number};
+ghost use Rattle.lexis.specs.Shapes.{shape_of};
+ghost use Rattle.lexis.specs.Number.{frac_len, sign_len, is_e, exp_len, parts_of, sticks};
 ghost use Rattle.lexis.specs.Number.{reduction};
-ghost use Rattle.lexis.specs.Push.{no_digits, push_all};
 ghost use Rattle.lexis.specs.Lexeme.{lexeme_told, number_lexeme};
 
 use crate::class::{Class, class_of};

@@ -67,7 +67,7 @@ pub enum Refusal {
 }
 
 impl Refusal {
-    // The number of a refusal.
+    // The number of a refusal. A method and no `From`: at a call its name says which number is meant.
     pub fn number(self) -> u32
         ensures { result ≡ refusal_number self }
     {

@@ -19,7 +19,7 @@ pub struct Lexeme {
     pub len: usize,
 }
 
-// The byte at i, and 0 past the end.
+// The byte at i, and 0 past the end, which begins and ends no token: what is asked of it is the same there.
 pub fn byte_at(text: &[u8], i: usize) -> u8
     ensures { result ≡ get_or text.now i 0 }
 {

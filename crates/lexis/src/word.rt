@@ -37,7 +37,7 @@ pub(crate) fn kind_of_word(w: &[u8]) -> Kind
     }
 }
 
-// A function for each first byte that begins several words: how many they are, which words and of which kind differs.
+// A function for each first byte that begins several words.
 
 // The kind of a word that begins with t.
 fn kind_t(w: &[u8]) -> Kind

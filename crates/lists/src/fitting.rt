@@ -1,5 +1,5 @@
 // Whether a value fits a type, and a left side the results of an operation. Value and type stand in two token tables.
-ghost use Rattle.std.specs.Prelude.{◌≡◌, true, false, cond, List, ℕ, suc, ◌+◌, ◌-◌, ◌<◌, ◌≤◌, leb, get_or};
+ghost use Rattle.std.specs.Prelude.{◌≡◌, true, false, cond, List, ℕ, suc, ◌+◌, ◌-◌, ◌<◌, ◌≤◌, leb};
 ghost use Rattle.lexis.specs.Sizes.{max_extent};
 ghost use Rattle.lexis.specs.Number.{value_from, signed};
 ghost use Rattle.lexis.specs.Lexer.{Token};

@@ -276,7 +276,7 @@ fn results(tokens: &Tokens<'_>, k: usize, index: &mut [u16], row: Row) -> Row
     }
 }
 
-// The number of the type of the only one of the results from place `from` on, or the one for several.
+// The number of the type of the only one of the results from place `at` on, or the one for several.
 fn result_code(tokens: &Tokens<'_>, at: usize, count: usize) -> u32
     requires { (tokens.now.count ≤ max_tokens) × (at ≤ tokens.now.count) }
     ensures { (rs : List Result) (us : List Token) → result_row (from tokens.now at) ≡ ok rs us

@@ -1,5 +1,5 @@
 // The stages of an operation list: bytes, syntax, rules.
-ghost use Rattle.std.specs.Prelude.{◌≡◌, ◌≤◌, min, length};
+ghost use Rattle.std.specs.Prelude.{◌≤◌, min, length};
 ghost use Rattle.lexis.specs.Sizes.{max_text, max_tokens, work_words};
 ghost use Rattle.lists.specs.Stages.{ListRead, ListDone, Served};
 

@@ -15,7 +15,7 @@ pub struct Comparison {
     pub pairs: usize,
 }
 
-// A comparison as two words.
+// A comparison as two words, as C has it.
 #[repr(C)]
 #[derive(Clone, Copy)]
 pub struct Compared {

@@ -63,7 +63,7 @@ pub enum Syntax {
     Document,
 }
 
-// The syntax of n tokens.
+// The syntax of these tokens.
 fn syntax_of(tokens: &Tokens<'_>, which: Syntax) -> Parsed
     ensures { told tokens.now result ≡ syntax_of which (length tokens.now.text.now) tokens.now.count (from tokens.now 0) }
 {

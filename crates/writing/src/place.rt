@@ -1,5 +1,5 @@
 // A place in a text that is put piece by piece: how many bytes and tokens stand before it.
-ghost use Rattle.std.specs.Prelude.{◌≡◌, ℕ};
+ghost use Rattle.std.specs.Prelude.{◌≡◌};
 ghost use Rattle.writing.specs.Writing.{one_more, keeps_limits};
 
 use lexis::limits::Limits;

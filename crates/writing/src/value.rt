@@ -1,8 +1,8 @@
 // The pieces of a value, read at a type. Value and type stand in two token tables, or both in one.
-ghost use Rattle.std.specs.Prelude.{get_or, ◌≡◌, ◌||◌, List, ℕ, ◌+◌, ◌<◌, ◌≤◌, eqb};
+ghost use Rattle.std.specs.Prelude.{◌≡◌, ◌||◌, List, ℕ, ◌+◌, ◌<◌, ◌≤◌, eqb};
 ghost use Rattle.std.proofs.Math.Option.{some};
 ghost use Rattle.lexis.specs.Lexer.{Token};
-ghost use Rattle.lexis.specs.Symbol.{left_square, left_round, minus};
+ghost use Rattle.lexis.specs.Symbol.{minus};
 ghost use Rattle.syntax.specs.Tree.{Value, Ty};
 ghost use Rattle.syntax.specs.Grammar.{Leaves, IsTypeName};
 ghost use Rattle.syntax.specs.Parser.{value, type};
