@@ -99,7 +99,9 @@ fn pair_case(rt: &impl Print, text: &[u8]) -> io::Result<()> {
 }
 
 // A number with one digit more; only a digit counts, and no fifth one.
-fn with_digit(n: usize, digit: u8) -> usize {
+fn with_digit(n: usize, digit: u8) -> usize
+    ensures { n ≤ 9999 → result ≤ 9999 }
+{
     match digit {
         b'0'..=b'9' if n < 1000 => n * 10 + usize::from(digit - b'0'),
         _ => n,

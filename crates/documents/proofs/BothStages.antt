@@ -41,7 +41,6 @@ use Rattle.documents.specs.Stages.{DocumentRead, BothKept, BothDone, RecordsDone
 use Rattle.documents.specs.declared.document.Ruled.{Ruled}
 use Rattle.documents.specs.declared.stages.Sizes.{Sizes}
 use Rattle.std.proofs.Common.{Result, Ok, Err, Some, None}
-use Rattle.lexis.specs.Refusal.{refusal_number}
 use Rattle.lists.specs.declared.best.Fault.{Fault as Found}
 
 -- ---- what has passed has no fault
@@ -153,7 +152,7 @@ module _ {list doc work₁ work₂ index words : List ℕ} {n k m : ℕ} (l : Li
     done : Rules records l.headers r.document ruled
     done = rules l.headers r.document (list-directs l) r.parsed
 
-    pub rules-stop : {f : Found} → best.fault ≡ Some f → both_stages list doc ≡ stop (answer (refusal_number f.refusal) 2 f.at f.detail)
+    pub rules-stop : {f : Found} → best.fault ≡ Some f → both_stages list doc ≡ stop (answer f.code 2 f.at f.detail)
     unfolding meant
     rules-stop {f} z =
         let q : some (fault_of f) ≡ first (document_faults l.headers r.document) = rw z at done.found in

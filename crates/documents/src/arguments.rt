@@ -123,14 +123,21 @@ pub fn value_end(tokens: &Tokens<'_>, v: usize) -> usize
     next
 }
 
-// This refusal at the token at place `at`.
-pub(crate) fn fault_at(tokens: &Tokens<'_>, at: usize, refusal: Refusal) -> Best
-    ensures { at < tokens.now.count → meant result ≡ some (fault (refusal_number refusal) (token_at tokens.now.text.now tokens.now.table.now at).start) }
+// The fault of this code at the token at place `at`.
+pub fn fault_at(tokens: &Tokens<'_>, at: usize, code: u32) -> Best
+    ensures { at < tokens.now.count → meant result ≡ some (fault code (token_at tokens.now.text.now tokens.now.table.now at).start) }
 {
     if tokens.count <= at {
         return Best::none();
     }
-    Best::one(refusal, tokens.start_at(at))
+    Best::coded(code, tokens.start_at(at))
+}
+
+// This refusal at the token at place `at`.
+pub(crate) fn refusal_at(tokens: &Tokens<'_>, at: usize, refusal: Refusal) -> Best
+    ensures { at < tokens.now.count → meant result ≡ some (fault (refusal_number refusal) (token_at tokens.now.text.now tokens.now.table.now at).start) }
+{
+    fault_at(tokens, at, refusal.number())
 }
 
 // The place after the value at place v, where it fits parameter i of the operation.
@@ -174,7 +181,7 @@ fn with_bound(doc: &Tokens<'_>, callee: &Callee<'_>, t: Tally, a: Aim, p: usize)
     if let Some(next) = fits_parameter(doc, v, callee, p) {
         return t.grown(Best::none(), bound, p + 1, a.leads, next);
     }
-    let fault = fault_at(doc, v, Refusal::Misfit);
+    let fault = refusal_at(doc, v, Refusal::Misfit);
     let end = value_end(doc, v);
     t.grown(fault, bound, p + 1, a.leads, end)
 }
@@ -189,7 +196,7 @@ fn with_argument(doc: &Tokens<'_>, callee: &Callee<'_>, t: Tally) -> Tally
     match a.parameter {
         Ok(p) => with_bound(doc, callee, t, a, p),
         Err(refusal) => {
-            let fault = fault_at(doc, t.at, refusal);
+            let fault = refusal_at(doc, t.at, refusal);
             let end = value_end(doc, a.value);
             t.grown(fault, t.bound, t.guess, a.leads, end)
         }

@@ -70,7 +70,7 @@ fn left_side(
     ensures left_side { OfLeft source.now index.old index.new at equal k tally result }
 {
     let external = is_external(&source.tokens, equal + 1);
-    let beyond = Best::fault_if(
+    let beyond = Best::refusal_if(
         k == Limits::CALLS,
         Refusal::OverSize,
         source.tokens.start_at(at),

@@ -35,7 +35,7 @@ fn bad_version(tokens: &Tokens<'_>) -> Best
         return Best::none();
     }
     let right = same(bytes_at(tokens, 1), b"1.0");
-    Best::fault_if(!right, Refusal::WrongVersion, tokens.start_at(1))
+    Best::refusal_if(!right, Refusal::WrongVersion, tokens.start_at(1))
 }
 
 // The names of the graph's header, which are entered in the index.

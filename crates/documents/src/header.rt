@@ -82,7 +82,7 @@ fn unassigned_at(tokens: &Tokens<'_>, i: usize, index: &[u16], refusal: Refusal,
         return best;
     }
     let a = look_up(tokens, index, bytes_at(tokens, i), Word::ASSIGNER);
-    best.earlier(Best::fault_if(a.is_none(), refusal, tokens.start_at(i)))
+    best.earlier(Best::refusal_if(a.is_none(), refusal, tokens.start_at(i)))
 }
 
 // The names at the places from `from` up to `to` that no call assigns.

@@ -3,7 +3,7 @@ ghost use Rattle.std.specs.Prelude.{◌≡◌, ◌+◌, ◌<◌, ◌≤◌, min,
 ghost use Rattle.documents.specs.Judged.{Readable, ClosesAt};
 ghost use Rattle.documents.specs.Directories.{OfOperation, OfCall};
 
-use crate::arguments::{fault_at, tally_all};
+use crate::arguments::{refusal_at, tally_all};
 use crate::directory::Directory;
 use crate::mask::first_missing;
 use crate::operation::callee_at;
@@ -52,7 +52,7 @@ fn declared(
     let t = tally_all(doc, &callee, equal + 3);
     let missing = first_missing(o.required, t.bound, doc.start_at(equal + 1));
     let matched = matches(doc, at, &directory.tokens, o.results, o.code);
-    let unmatched = Best::fault_if(!matched, Refusal::Unmatched, doc.start_at(at));
+    let unmatched = Best::refusal_if(!matched, Refusal::Unmatched, doc.start_at(at));
     Judged {
         op: Some(k),
         best: t.best.earlier(missing).earlier(unmatched),
@@ -78,7 +78,7 @@ pub fn judge(directory: &Directory<'_>, doc: &Tokens<'_>, at: usize, equal: usiz
     let Some(k) = found else {
         return Judged {
             op: None,
-            best: fault_at(doc, name, Refusal::Undeclared),
+            best: refusal_at(doc, name, Refusal::Undeclared),
             close: closing(doc, equal + 3),
         };
     };

@@ -21,7 +21,7 @@ pub fn first_missing(required: u32, bound: u32, place: u32) -> Best
     Best {
         fault: Some(Fault {
             at: place,
-            refusal: Refusal::Unbound,
+            code: Refusal::Unbound.number(),
             detail: u32::trailing_zeros(missing),
         }),
     }

@@ -52,7 +52,12 @@ fn rules_in<const N: usize>(
     let mut index = [0u16; N];
     let ruled = document_rules(list, source, &mut index, records);
     if let Some(fault) = ruled.best.fault {
-        return Err(Answer::refused(fault.refusal, 2, fault.at, fault.detail));
+        return Err(Answer {
+            code: fault.code,
+            text: 2,
+            position: fault.at,
+            detail: fault.detail,
+        });
     }
     Ok(Sizes {
         list: list.tokens.count,

@@ -20,7 +20,8 @@ use crate::layout::Layout;
 use crate::token::bytes_at;
 use syntax::tokens::Tokens;
 
-// The place of the name that is spelt w.
+// The place of the name that is spelt w. Inlined into each search, as `enter` and `look_up` are: by a call, names took `check` a tenth more (measured).
+#[inline(always)]
 fn find(tokens: &Tokens<'_>, index: &[u16], w: &[u8]) -> Option<usize>
     requires walkable { Walkable index.now tokens.now.count tokens.now.count }
     ensures finds { Finds tokens.now.text.now tokens.now.table.now index.now w.now (link_to result) }
@@ -31,6 +32,7 @@ fn find(tokens: &Tokens<'_>, index: &[u16], w: &[u8]) -> Option<usize>
 }
 
 // The place of the name that is spelt as the token at place t, which is entered if there was none.
+#[inline(always)]
 pub fn enter(tokens: &Tokens<'_>, index: &mut [u16], t: usize) -> usize
     requires t_lt_n { (t < tokens.now.count) × (t < max_tokens) }
     requires walkable { Walkable index.old t tokens.now.count }
@@ -93,6 +95,7 @@ pub fn keep_word(index: &mut [u16], p: usize, field: usize, x: usize) -> Option<
 }
 
 // A word of the name that is spelt w, if it is entered and was given one.
+#[inline(always)]
 pub fn look_up(tokens: &Tokens<'_>, index: &[u16], w: &[u8], field: usize) -> Option<usize>
     requires walkable { Walkable index.now tokens.now.count tokens.now.count }
     requires field_lt_name_words { field < name_words }

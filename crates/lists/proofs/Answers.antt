@@ -44,6 +44,11 @@ clash z = omega arith
 
 -- ---- places and answers
 
+-- an answer of the functions that fit a value: where it stands, and that it is right for whatever value and type stand there
+pub record Answered (text table : List ℕ) (n i : ℕ) (ts : List Token) (kinds k : ℕ) (r : Maybe ℕ) : Type 0 where
+  pub range : Within n i r
+  pub meaning : OfValue text table n i ts kinds k r
+
 none-some : {j : ℕ} → None ≡ Some j → ⊥
 none-some z = clash cc
 
@@ -370,6 +375,9 @@ module _ (text table : List ℕ) (n i : ℕ) (ttext ttable : List ℕ) (tn t k s
 
       pub signed-within : Within n i r
       signed-within = signed-has (λ d. sign-within d kinds r) (λ d. leaf-within d kinds r)
+
+      pub signed-answered : Answered text table n i (toks ttext ttable tn t) kinds k r
+      signed-answered = record { range = signed-within; meaning = signed-answer }
 
 -- ---- the items of an array
 

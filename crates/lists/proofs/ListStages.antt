@@ -10,7 +10,6 @@ use native.Mathlib.Nat.{zero-add}
 use native.Mathlib.Omega.{arith}
 use lib.ListN.{length, replicate, length-replicate}
 use lib.Seq.{sets, length-sets}
-use borrow.Author.Tests.{ne_eqb}
 use Rattle.lexis.specs.Sizes.{max_text, max_tokens, record_words, first_mark, work_words, max_brackets}
 use Rattle.lexis.specs.Lexer.{Token, Lexed, accepted, refused, lex, Placed}
 use Rattle.lexis.specs.Lexer.Placed.{none, next}
@@ -19,7 +18,6 @@ use Rattle.lexis.specs.Answer.{answer}
 use Rattle.lexis.specs.Symbol.{symbols}
 use Rattle.lexis.specs.Work.{records, Recorded, Room}
 use Rattle.lexis.specs.Answer as LA
-use Rattle.lexis.specs.declared.Answer.{Answer}
 use Rattle.lexis.specs.Answer.{Counted}
 use Rattle.lexis.specs.Answer.Counted.{Tokens, Fault as Refused}
 use Rattle.syntax.specs.Tree.{Header}
@@ -40,10 +38,9 @@ use Rattle.lists.specs.Best.{clean, fault_of, meant}
 use Rattle.lists.specs.ListRules.{list_faults}
 use Rattle.lists.specs.Answer.{stop, and_then, bytes_stage, syntax_stage, rules_stage, list_stages}
 use Rattle.lists.specs.Headers.{Roomy, Ready, empty_row, row_faults, of_headers, Numbered, HeadersRead, OfHeaders}
-use Rattle.lists.specs.Stages.{ListRead, Served, ListPassed, ListDone}
+use Rattle.lists.specs.Stages.{ListRead, Served, ListPassed}
 use Rattle.lists.specs.declared.headers.Ruled.{Ruled}
 use Rattle.lists.specs.declared.best.Fault.{Fault as Found}
-use Rattle.lexis.specs.Refusal.{refusal_number}
 use Rattle.std.proofs.Common.{Some, None}
 use Rattle.lists.proofs.Bests.{clean-none}
 use Rattle.lists.proofs.Faultless.{own-clean, few-operations}
@@ -143,7 +140,7 @@ module _ {text work index index' words words' : List ℕ} {n : ℕ} (list : List
           names = read.names [] start refl;
         }
 
-    pub rules-stop : {f : Found} → ruled.best.fault ≡ Some f → list_stages text ≡ stop (answer (refusal_number f.refusal) 1 f.at f.detail)
+    pub rules-stop : {f : Found} → ruled.best.fault ≡ Some f → list_stages text ≡ stop (answer f.code 1 f.at f.detail)
     unfolding meant
     rules-stop {f} z =
         let m : some (fault_of f) ≡ first (list_faults list.headers) = rw z at found-is in

@@ -1,7 +1,6 @@
 -- The first fault that a walk has met, as the code holds it.
 use Rattle.std.specs.Prelude.{Option as Maybe, Some, None}
 use Rattle.std.proofs.Math.Option.{Option, some, none as nothing}
-use Rattle.lexis.specs.Refusal.{refusal_number}
 use Rattle.lists.specs.Fault.{Fault}
 use Rattle.lists.specs.declared.best.Fault.{Fault as Found}
 use Rattle.lists.specs.declared.best.Best.{Best}
@@ -10,9 +9,9 @@ use Rattle.lists.specs.declared.best.Best.{Best}
 abbrev pub clean : Best
 clean = record { fault = None }
 
--- a fault of the code, by the number of its refusal
+-- a fault of the code
 abbrev pub fault_of : Found → Fault
-fault_of f = record { at = f.at; code = refusal_number f.refusal; detail = f.detail }
+fault_of f = record { at = f.at; code = f.code; detail = f.detail }
 
 -- the fault, where there is one
 abbrev pub meant_by : Maybe Found → Option Fault

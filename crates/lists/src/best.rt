@@ -8,27 +8,24 @@ ghost use Rattle.lists.specs.Walks.{when};
 
 use lexis::refusal::Refusal;
 
-// A fault: its place, why the text is refused, and the detail.
+// A fault: its place, its code, and the detail. A code and no `Refusal`: `fault_if` and `or_if` take any.
 #[derive(Clone, Copy)]
 pub struct Fault {
     pub at: u32,
-    pub refusal: Refusal,
+    pub code: u32,
     pub detail: u32,
 }
 
 impl Fault {
-    // Whether a fault is not after another. Written out and not derived: that the derived order is that of the refusals' numbers would have to be
-    // shown case by case.
+    // Whether a fault is not after another. Written out and not derived: the order is promised field by field.
     fn before(self, other: Fault) -> bool
         ensures { result ≡ before (fault_of self) (fault_of other) }
     {
-        let number = self.refusal.number();
-        let other_number = other.refusal.number();
         if self.at != other.at {
             return self.at < other.at;
         }
-        if number != other_number {
-            return number < other_number;
+        if self.code != other.code {
+            return self.code < other.code;
         }
         self.detail <= other.detail
     }
@@ -48,31 +45,46 @@ impl Best {
         Best { fault: None }
     }
 
-    // One fault, without a detail.
-    pub fn one(refusal: Refusal, at: u32) -> Best
-        ensures { meant result ≡ some (fault (refusal_number refusal) at) }
+    // One fault of this code, without a detail.
+    pub fn coded(code: u32, at: u32) -> Best
+        ensures { meant result ≡ some (fault code at) }
     {
         Best {
             fault: Some(Fault {
                 at,
-                refusal,
+                code,
                 detail: 0,
             }),
         }
     }
 
-    // The fault at this place, if the test holds.
-    pub fn fault_if(test: bool, refusal: Refusal, at: u32) -> Best
-        ensures { meant result ≡ first (when test (fault (refusal_number refusal) at)) }
+    // One refusal, without a detail.
+    pub fn one(refusal: Refusal, at: u32) -> Best
+        ensures { meant result ≡ some (fault (refusal_number refusal) at) }
+    {
+        Best::coded(refusal.number(), at)
+    }
+
+    // The fault of this code at this place, if the test holds.
+    pub fn fault_if(test: bool, code: u32, at: u32) -> Best
+        ensures { meant result ≡ first (when test (fault code at)) }
     {
         if test {
-            Best::one(refusal, at)
+            Best::coded(code, at)
         } else {
             Best::none()
         }
     }
 
-    // The earlier of two.
+    // The refusal at this place, if the test holds.
+    pub fn refusal_if(test: bool, refusal: Refusal, at: u32) -> Best
+        ensures { meant result ≡ first (when test (fault (refusal_number refusal) at)) }
+    {
+        Best::fault_if(test, refusal.number(), at)
+    }
+
+    // The earlier of two. Inlined: each rule asks it, and by a call both faults go through memory.
+    #[inline(always)]
     pub fn earlier(self, other: Best) -> Best
         ensures { meant result ≡ earlier (meant self) (meant other) }
     {
@@ -83,10 +95,17 @@ impl Best {
         }
     }
 
-    // The earlier of it and the fault at this place, if the test holds.
-    pub fn or_if(self, test: bool, refusal: Refusal, at: u32) -> Best
+    // The earlier of it and the fault of this code at this place, if the test holds.
+    pub fn or_if(self, test: bool, code: u32, at: u32) -> Best
+        ensures { meant result ≡ earlier (meant self) (first (when test (fault code at))) }
+    {
+        self.earlier(Best::fault_if(test, code, at))
+    }
+
+    // The earlier of it and the refusal at this place, if the test holds.
+    pub fn or_refusal_if(self, test: bool, refusal: Refusal, at: u32) -> Best
         ensures { meant result ≡ earlier (meant self) (first (when test (fault (refusal_number refusal) at))) }
     {
-        self.earlier(Best::fault_if(test, refusal, at))
+        self.or_if(test, refusal.number(), at)
     }
 }

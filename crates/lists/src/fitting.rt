@@ -88,7 +88,9 @@ fn starts_leaf(s: u32) -> bool
     is_leaf(s) || s == Symbol::MINUS
 }
 
-// The leaf at place `at`, with a sign before it or without one, against a type word of these kinds under k pairs of square brackets.
+// The leaf at place `at`, with a sign before it or without one, against a type word of these kinds under k pairs of square brackets. What a leaf takes
+// is inlined into the loops over items, and brackets alone take a call (measured).
+#[inline(always)]
 fn fits_leaf(tokens: &Tokens<'_>, at: usize, kinds: u32, k: usize, negative: bool) -> Option<usize>
     requires { at < tokens.now.count }
     ensures { result ≡ leaf_answer tokens.now.text.now tokens.now.table.now at kinds k negative }
@@ -100,6 +102,7 @@ fn fits_leaf(tokens: &Tokens<'_>, at: usize, kinds: u32, k: usize, negative: boo
 }
 
 // The same for the leaf that begins at place `at` with the terminal s: where that is a sign, the number stands after it.
+#[inline(always)]
 fn fits_signed(tokens: &Tokens<'_>, at: usize, s: u32, kinds: u32, k: usize) -> Option<usize>
     requires { at < tokens.now.count }
     ensures { result ≡ signed_answer tokens.now.text.now tokens.now.table.now tokens.now.count at s kinds k }
@@ -160,6 +163,7 @@ fn fits_nested(
 
 // Whether the value at place v fits the base at place t, of these kinds, under k pairs of square brackets. Most values are leaves.
 #[cycle(fits_array_fits_each_fits_nested_fits_one)]
+#[inline(always)]
 fn fits_one(
     values: &Tokens<'_>,
     v: usize,
@@ -179,7 +183,8 @@ fn fits_one(
     fits_nested(values, v, s, types, t, kinds, k)
 }
 
-// Whether the items of the array after its bracket at place v fit the base at place t under k pairs of square brackets.
+// Whether the items of the array after its bracket at place v fit the base at place t under k pairs of square brackets. A leaf is settled in the
+// loop, and only brackets take a call.
 #[cycle(fits_array_fits_each_fits_nested_fits_one)]
 fn fits_array(
     values: &Tokens<'_>,
@@ -192,13 +197,19 @@ fn fits_array(
     ensures range { Within values.now.count v result }
     ensures meaning { OfArray values.now.text.now values.now.table.now values.now.count v (from types.now t) kinds k result }
 {
+    below_256(values.text);
     if values.symbol_at(v) == Symbol::RIGHT_SQUARE {
         return Some(v + 1);
     }
     // No `for`: the tokens say where the items end.
     let mut i = v;
     loop {
-        let next = fits_one(values, i, types, t, kinds, k)?;
+        let c = values.symbol_at(i);
+        let next = if starts_leaf(c) {
+            fits_signed(values, i, c, kinds, k)?
+        } else {
+            fits_nested(values, i, c, types, t, kinds, k)?
+        };
         let s = values.symbol_at(next);
         if s == Symbol::RIGHT_SQUARE {
             return Some(next + 1);

@@ -169,8 +169,8 @@ fn parameter(tokens: &Tokens<'_>, k: usize, index: &mut [u16], words: &mut [u32]
     let beyond = row.index == Limits::PARAMETERS;
     let best = row
         .best
-        .or_if(beyond, Refusal::OverSize, place)
-        .or_if(again, Refusal::RepeatedName, place);
+        .or_refusal_if(beyond, Refusal::OverSize, place)
+        .or_refusal_if(again, Refusal::RepeatedName, place);
     Row {
         best: best.earlier(d.best),
         at: d.end,
@@ -248,8 +248,8 @@ fn result(tokens: &Tokens<'_>, k: usize, index: &mut [u16], row: Row) -> Row
     Row {
         best: row
             .best
-            .or_if(beyond, Refusal::OverSize, place)
-            .or_if(again, Refusal::RepeatedName, place),
+            .or_refusal_if(beyond, Refusal::OverSize, place)
+            .or_refusal_if(again, Refusal::RepeatedName, place),
         at: ty.end,
         index: row.index + 1,
         params: row.params,
@@ -301,12 +301,12 @@ fn header(tokens: &Tokens<'_>, k: usize, index: &mut [u16], words: &mut [u32], r
 {
     let q = row.at + 1;
     let again = operation(tokens, &mut *index, q, k);
-    let beyond = row.best.or_if(
+    let beyond = row.best.or_refusal_if(
         k == Limits::OPERATIONS,
         Refusal::OverSize,
         tokens.start_at(row.at),
     );
-    let best = beyond.or_if(again, Refusal::RepeatedName, tokens.start_at(q));
+    let best = beyond.or_refusal_if(again, Refusal::RepeatedName, tokens.start_at(q));
     let ps = parameters(
         tokens,
         k + 1,

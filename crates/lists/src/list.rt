@@ -35,7 +35,12 @@ fn rules_stage(
     };
     let ruled = headers(&tokens, index, words);
     if let Some(fault) = ruled.best.fault {
-        return Err(Answer::refused(fault.refusal, 1, fault.at, fault.detail));
+        return Err(Answer {
+            code: fault.code,
+            text: 1,
+            position: fault.at,
+            detail: fault.detail,
+        });
     }
     Ok(Listed {
         tokens: n,

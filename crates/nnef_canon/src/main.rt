@@ -69,7 +69,8 @@ fn write_out(rt: &HostRuntime, bytes: &[u8]) {
     }
 }
 
-// Writes what is to be shown of a document under a list.
+// Writes what is to be shown of a document under a list. Not inlined: without a list, or with a text that cannot be read, its arrays take no stack.
+#[inline(never)]
 fn write_shown(rt: &HostRuntime, list: &[u8], document: &[u8]) {
     // Arrays on the stack, as for the texts below: no heap, fixed memory.
     let mut work1 = [0u32; Limits::WORK_WORDS];

@@ -41,6 +41,7 @@ impl Tokens<'_> {
     }
 
     // The terminal s at place `at`.
+    #[inline(always)]
     pub(crate) fn expect(&self, at: usize, s: u32) -> Parsed
         requires { s < the_end }
         ensures { told self.now result ≡ answer self.now (expect s) at }

@@ -59,8 +59,9 @@ fn negative(tokens: &Tokens<'_>, at: usize, s: u32, leaves: Leaves) -> Parsed
     tokens.expect(at + 1, Symbol::NUMBER)
 }
 
-// A value where s stands, in which `room` brackets may be opened inside one another.
+// A value where s stands, in which `room` brackets may be opened inside one another. Inlined: a leaf takes no call.
 #[cycle(array_items_tuple_value_from)]
+#[inline(always)]
 fn value_from(tokens: &Tokens<'_>, at: usize, s: u32, leaves: Leaves, room: usize) -> Parsed
     requires { s ≡ lookahead (from tokens.now at) }
     ensures { told tokens.now result ≡ answer tokens.now (value (leaves_of leaves) room) at }
@@ -101,7 +102,7 @@ fn tuple(tokens: &Tokens<'_>, at: usize, leaves: Leaves, room: usize) -> Parsed
     items(tokens, next, leaves, room, Symbol::RIGHT_ROUND)
 }
 
-// Values parted by commas, at least one, and the closing terminal.
+// Values parted by commas, at least one, and the closing terminal. A leaf, which an item is more often than not, is told here and not by a call.
 #[cycle(array_items_tuple_value_from)]
 pub(crate) fn items(
     tokens: &Tokens<'_>,
@@ -117,7 +118,12 @@ pub(crate) fn items(
     // No `for`: the tokens say where the values end.
     let mut i = at;
     loop {
-        let next = value_from(tokens, i, tokens.symbol_at(i), leaves, room)?;
+        let c = tokens.symbol_at(i);
+        let next = if leaves.have(c) {
+            i + 1
+        } else {
+            value_from(tokens, i, c, leaves, room)?
+        };
         if tokens.symbol_at(next) != Symbol::COMMA {
             return tokens.expect(next, close);
         }
@@ -127,6 +133,7 @@ pub(crate) fn items(
 
 impl Tokens<'_> {
     // A value.
+    #[inline(always)]
     pub fn value(&self, at: usize, leaves: Leaves, room: usize) -> Parsed
         ensures { told self.now result ≡ answer self.now (value (leaves_of leaves) room) at }
     {

@@ -1,7 +1,6 @@
 -- `read` meets its contract: what the lexer leaves in the work area holds the tokens, and a fault's place lies in the text. Assumes nothing.
 use mathlib.Core.Path.{refl}
 use native.Mathlib.Omega.{arith}
-use borrow.Author.Rules.{rules}
 use Rattle.std.proofs.lemmas.Result.{err_from_is_err_and}
 use Rattle.syntax.proofs.Reading.{got, read-refused, read_is, place-within}
 use Rattle.syntax.proofs.read.Goals as goal

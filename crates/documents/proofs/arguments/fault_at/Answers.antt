@@ -1,7 +1,6 @@
 -- The place is that of the token.
 use mathlib.Core.Path.{ap, ◌∙◌}
 use native.Mathlib.Omega.{arith}
-use Rattle.lexis.specs.Refusal.{refusal_number}
 use Rattle.std.proofs.Math.Option.{some}
 use Rattle.lists.specs.Fault.{fault}
 use Rattle.syntax.specs.Table.{token_at}
@@ -12,4 +11,4 @@ returns-then-tokens-at c = λ l. absurd (omega (arith, l, c.if-tokens-at.true))
 
 pub returns : goal.returns
 unfolding token_at
-returns c = λ l. c.one.ensures ∙ ap (λ p. some (fault (refusal_number c.args.refusal) p)) c.start_at.ensures
+returns c = λ l. c.coded.ensures ∙ ap (λ p. some (fault c.args.code p)) c.start_at.ensures

@@ -20,5 +20,5 @@ returns-in-Err c = let doc = c.args.doc.now in
       meaning = λ ps xs x us d h k.
           let w = c.aim_of-a.ensures.meaning ps xs x us d h k in
           refused-to doc.text.now doc.table.now doc.count c.grown.ensures (end.meaning w.tree us w.reads) k
-          (subst (Serves ps xs x w.tree _) c.in-Err.is w.aimed.serves) w.aimed.unnamed (c.fault_at-fault.ensures w.inside) refl;
+          (subst (Serves ps xs x w.tree _) c.in-Err.is w.aimed.serves) w.aimed.unnamed (c.refusal_at-fault.ensures w.inside) refl;
     }

@@ -26,6 +26,6 @@ returns c = let doc = c.args.doc.now in
       meaning = λ ps xs x v us d h k b u.
           let w = c.fits_parameter.ensures.meaning b.param v us (parameter-at d b.nth) h in
           bound-to doc.text.now doc.table.now doc.count c.grown-2.ensures (end.meaning v us h) k b u
-          (misfit-no doc.text.now doc.table.now doc.count c.args.a.value max_brackets h b.param.ty (w.misfit c.in_default.is) c.fault_at-fault.ensures)
+          (misfit-no doc.text.now doc.table.now doc.count c.args.a.value max_brackets h b.param.ty (w.misfit c.in_default.is) c.refusal_at-fault.ensures)
           c.with-bound.ensures;
     }

@@ -24,5 +24,5 @@ returns c = record {
       (c.is_external-external.ensures w.inside.1 ∙ ap (λ (t : Token). same_bytes t.bytes (ascii "external")) w.title)
       (c.earlier.ensures
       ∙ ap (earlier (meant c.args.tally.best))
-      (c.fault_if-beyond.ensures ∙ ap (λ (q : ℕ). first (when (eqb c.args.k max_calls) (fault Lists.over_size q))) c.start_at.ensures));
+      (c.refusal_if-beyond.ensures ∙ ap (λ (q : ℕ). first (when (eqb c.args.k max_calls) (fault Lists.over_size q))) c.start_at.ensures));
 }

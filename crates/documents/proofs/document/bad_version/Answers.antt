@@ -19,6 +19,6 @@ unfolding token_at
 returns c = λ h.
     let t = token_at c.args.tokens.now.text.now c.args.tokens.now.table.now 1 in
     let same = c.same-right.ensures ∙ ap (λ (w : List ℕ). same_bytes w (ascii "1.0")) c.bytes_at.ensures in
-    c.fault_if.ensures
+    c.refusal_if.ensures
     ∙ ap₂ (λ (x : Bool) (p : ℕ). first (when (not x) (fault 11 p))) same c.start_at.ensures
     ∙ ap first (when-not (same_bytes t.bytes (ascii "1.0")) (fault 11 t.start))

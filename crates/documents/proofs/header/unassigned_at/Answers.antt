@@ -30,7 +30,7 @@ returns c = let t = token_at c.args.tokens.now.text.now c.args.tokens.now.table.
     λ j es cs m.
     c.earlier.ensures
     ∙ ap (earlier (meant c.args.best))
-    (c.fault_if.ensures
+    (c.refusal_if.ensures
     ∙ ap (λ (b : Bool). first (when b (fault (refusal_number c.args.refusal) c.start_at.result)))
     (word-missing c.look_up-a.result c.is_none.result c.look_up-a.ensures.nonzero c.is_none.ensures)
     ∙ missing-one c.args.tokens.now.text.now c.args.tokens.now.table.now c.args.index.now c.args.i (refusal_number c.args.refusal) (word_in c.look_up-a.result) c.start_at.result one looks

@@ -32,9 +32,9 @@ returns c = record {
             let xs = k.args in
             call-sum h k c.tally_all-t.result q
             (c.first_missing-missing.ensures (map is_required ps) (bound ps xs) (ap (λ (o : Operation). o.required) c.callee_at-callee.ensures.operation ∙ e.required) q.flags (required-few ps few) (bound-few ps few xs))
-            (c.start_at.ensures ∙ name-starts w) c.fault_if-unmatched.ensures (c.start_at-2.ensures ∙ left-starts-at w)
+            (c.start_at.ensures ∙ name-starts w) c.refusal_if-unmatched.ensures (c.start_at-2.ensures ∙ left-starts-at w)
             (c.matches-matched.ensures max_brackets k.left _ max_brackets h.results e.after w.leads results (ap (λ (o : Operation). o.code) c.callee_at-callee.ensures.operation ∙ e.code))
-            (c.earlier-2.ensures ∙ ap (λ (v : Option Fault). earlier v (meant c.fault_if-unmatched.result)) c.earlier.ensures);
+            (c.earlier-2.ensures ∙ ap (λ (v : Option Fault). earlier v (meant c.refusal_if-unmatched.result)) c.earlier.ensures);
         closes = λ xs us r. let q = c.tally_all-t.ensures.meaning ps xs us d r in (q.1, q.2);
       };
 }

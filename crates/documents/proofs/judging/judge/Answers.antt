@@ -15,7 +15,7 @@ returns-in_default c = record {
   range = (tt, omega (arith, c.closing.ensures.range.0, c.if-doc-equal.false), c.closing.ensures.range.1);
   meaning = λ hs k d w.
       judges-unknown hs k (token_at c.args.doc.now.text.now c.args.doc.now.table.now (c.args.equal + 1)) (names-operation w) (c.find-found.ensures (length hs) hs d.names)
-      c.in_default.is (c.fault_at.ensures (omega (arith, c.if-doc-equal.false))) c.closing.ensures.meaning;
+      c.in_default.is (c.refusal_at.ensures (omega (arith, c.if-doc-equal.false))) c.closing.ensures.meaning;
 }
 
 pub declared-requires : goal.declared-requires

@@ -12,4 +12,4 @@ returns-then-missing-eq0 c = λ rs bs p q l m. ap meant c.none.ensures
 
 pub returns : goal.returns
 unfolding meant first
-returns c = λ rs bs p q l m. rw (p, q) (sym (ap first (first-lacked c.args.place rs bs l m (rw (p, q) at c.if-missing-eq0.false))))
+returns c = λ rs bs p q l m. rw (c.number.ensures, p, q) (sym (ap first (first-lacked c.args.place rs bs l m (rw (p, q) at c.if-missing-eq0.false))))

@@ -20,14 +20,14 @@ decreases-fits_each l = 3 * (l.values.now.count - l.v) + 2
 abbrev pub decreases-fits_one : goal.decreases-fits_one
 decreases-fits_one l = 3 * (l.values.now.count - l.v) + 1
 
-abbrev pub invariant-fits_array-loop-next : goal.invariant-fits_array-loop-next
-invariant-fits_array-loop-next l =
+abbrev pub invariant-fits_array-loop-v : goal.invariant-fits_array-loop-v
+invariant-fits_array-loop-v l =
     let v = l.values in
     (l.v ≤ l.i) × ((r : Maybe ℕ) → OfItems v.text.now v.table.now v.count l.i (from l.types l.t) l.kinds l.k r
     → OfArray v.text.now v.table.now v.count l.v (from l.types l.t) l.kinds l.k r)
 
-abbrev pub decreases-fits_array-loop-next : goal.decreases-fits_array-loop-next
-decreases-fits_array-loop-next l = l.values.count - l.i
+abbrev pub decreases-fits_array-loop-v : goal.decreases-fits_array-loop-v
+decreases-fits_array-loop-v l = l.values.count - l.i
 
 abbrev pub invariant-fits_each-loop-next : goal.invariant-fits_each-loop-next
 invariant-fits_each-loop-next l =

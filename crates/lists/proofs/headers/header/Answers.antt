@@ -91,11 +91,11 @@ returns c = rw c.empty-3.ensures (record {
       c.results-rs.new.index
       c.args.words.now c.parameters-ps.new.words c.store_operation.new.words c.args.tokens.now.count c.args.k c.args.row
       c.parameters-ps.result c.results-rs.result c.operation-again.result
-      c.or_if-best.result c.result_code-code.result c.operation-again.ensures.meaning (rw c.empty.ensures at c.parameters-ps.ensures.meaning)
+      c.or_refusal_if-best.result c.result_code-code.result c.operation-again.ensures.meaning (rw c.empty.ensures at c.parameters-ps.ensures.meaning)
       (rw c.empty-2.ensures at c.results-rs.ensures.meaning)
       (rw c.empty-2.ensures at c.results-rs.ensures.carried) c.result_code-code.ensures c.store_operation.ensures
       (omega (arith, c.parameters-ps.auto.words, c.requires.roomy.room))
       (omega (arith, c.results-rs.ensures.ready.few, c.results-rs.ensures.ready.inside))
-      (two-tests c.args.row.best c.or_if-beyond.result c.or_if-best.result (eqb c.args.k max_operations) c.operation-again.result
-      c.or_if-beyond.ensures c.or_if-best.ensures c.start_at.ensures c.start_at-2.ensures);
+      (two-tests c.args.row.best c.or_refusal_if-beyond.result c.or_refusal_if-best.result (eqb c.args.k max_operations) c.operation-again.result
+      c.or_refusal_if-beyond.ensures c.or_refusal_if-best.ensures c.start_at.ensures c.start_at-2.ensures);
 })

@@ -64,7 +64,7 @@ returns c = record {
       c.requires.roomy c.requires.ready.few c.requires.at_bound _ c.is_none.ensures c.required.ensures
       (c.earlier.ensures
       ∙ ap (λ (o : Option Fault). earlier o (meant c.default_of-d.result.best))
-      (two-tests c.args.row.best c.or_if.result c.or_if-best.result (eqb c.args.row.index max_parameters)
+      (two-tests c.args.row.best c.or_refusal_if.result c.or_refusal_if-best.result (eqb c.args.row.index max_parameters)
       c.named-again.result
-      c.or_if.ensures c.or_if-best.ensures c.start_at-place.ensures c.start_at-place.ensures));
+      c.or_refusal_if.ensures c.or_refusal_if-best.ensures c.start_at-place.ensures c.start_at-place.ensures));
 }

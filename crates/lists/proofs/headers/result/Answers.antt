@@ -28,7 +28,7 @@ returns c = record {
   walkable = c.named-again.ensures.walkable;
   carried = record { params = refl; required = refl };
   meaning = result-read c.named-again.ensures.meaning c.type_of-ty.ensures.meaning
-      (two-tests c.args.row.best c.or_if.result c.or_if-2.result (eqb c.args.row.index max_results)
-      c.named-again.result c.or_if.ensures c.or_if-2.ensures c.start_at-place.ensures
+      (two-tests c.args.row.best c.or_refusal_if.result c.or_refusal_if-2.result (eqb c.args.row.index max_results)
+      c.named-again.result c.or_refusal_if.ensures c.or_refusal_if-2.ensures c.start_at-place.ensures
       c.start_at-place.ensures);
 }

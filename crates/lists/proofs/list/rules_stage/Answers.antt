@@ -18,5 +18,4 @@ returns c = rules-pass c.requires.list_read c.requires.served c.headers-ruled.re
     c.requires.text_len_bound.1 c.headers-ruled.ensures.few c.in_default.is
 
 pub returns-in-Some : goal.returns-in-Some
-returns-in-Some c = rw c.refused.ensures
-    (rules-stop c.requires.list_read c.requires.served c.headers-ruled.result c.headers-ruled.ensures.meaning c.in-Some.is)
+returns-in-Some c = rules-stop c.requires.list_read c.requires.served c.headers-ruled.result c.headers-ruled.ensures.meaning c.in-Some.is

@@ -19,11 +19,11 @@ decreases-tuple l = 3 * (l.tokens.now.count - l.at) + 1
 abbrev pub decreases-value_from : goal.decreases-value_from
 decreases-value_from l = 3 * (l.tokens.now.count - l.at) + 0
 
-abbrev pub invariant-items-loop-next : goal.invariant-items-loop-next
-invariant-items-loop-next l = (l.at ≤ l.i)
+abbrev pub invariant-items-loop-leaves : goal.invariant-items-loop-leaves
+invariant-items-loop-leaves l = (l.at ≤ l.i)
     ×
     (answer l.tokens (row values (commas l.close) (value_of (leaves_of l.leaves) l.room)) l.at ≡ answer l.tokens
     (row values (commas l.close) (value_of (leaves_of l.leaves) l.room)) l.i)
 
-abbrev pub decreases-items-loop-next : goal.decreases-items-loop-next
-decreases-items-loop-next l = l.tokens.count - l.i
+abbrev pub decreases-items-loop-leaves : goal.decreases-items-loop-leaves
+decreases-items-loop-leaves l = l.tokens.count - l.i

@@ -1,7 +1,7 @@
-use mathlib.Core.Path.{refl}
-use Rattle.lists.specs.Best.{meant}
+use mathlib.Core.Path.{ap, ◌∙◌}
+use Rattle.std.proofs.Math.Option.{some}
+use Rattle.lists.specs.Fault.{fault}
 use Rattle.lists.proofs.best.Best.one.Goals as goal
 
 pub returns : goal.returns
-unfolding meant
-returns c = refl
+returns c = c.coded.ensures ∙ ap (λ code. some (fault code c.args.at)) c.number.ensures
