@@ -20,7 +20,7 @@ use crate::layout::Layout;
 use crate::token::bytes_at;
 use syntax::tokens::Tokens;
 
-// The place of the name that is spelt w. Inlined into each search, as `enter` and `look_up` are: by a call, names took `check` a tenth more (measured).
+// The place of the name that is spelt w. Inlined, as `enter` and `look_up` are: measured, `check` takes a tenth less so.
 #[inline(always)]
 fn find(tokens: &Tokens<'_>, index: &[u16], w: &[u8]) -> Option<usize>
     requires walkable { Walkable index.now tokens.now.count tokens.now.count }

@@ -8,7 +8,7 @@ ghost use Rattle.lists.specs.Walks.{when};
 
 use lexis::refusal::Refusal;
 
-// A fault: its place, its code, and the detail. A code and no `Refusal`: `fault_if` and `or_if` take any.
+// A fault: its place, its code, and the detail. A code and no `Refusal`: `fault_if` and `or_if` take any code.
 #[derive(Clone, Copy)]
 pub struct Fault {
     pub at: u32,
@@ -17,7 +17,7 @@ pub struct Fault {
 }
 
 impl Fault {
-    // Whether a fault is not after another. Written out and not derived: the order is promised field by field.
+    // Whether a fault is not after another.
     fn before(self, other: Fault) -> bool
         ensures { result ≡ before (fault_of self) (fault_of other) }
     {
@@ -103,7 +103,7 @@ impl Best {
     }
 
     // The earlier of it and the refusal at this place, if the test holds.
-    pub fn or_refusal_if(self, test: bool, refusal: Refusal, at: u32) -> Best
+    pub(crate) fn or_refusal_if(self, test: bool, refusal: Refusal, at: u32) -> Best
         ensures { meant result ≡ earlier (meant self) (first (when test (fault (refusal_number refusal) at))) }
     {
         self.or_if(test, refusal.number(), at)

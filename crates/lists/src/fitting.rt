@@ -88,8 +88,8 @@ fn starts_leaf(s: u32) -> bool
     is_leaf(s) || s == Symbol::MINUS
 }
 
-// The leaf at place `at`, with a sign before it or without one, against a type word of these kinds under k pairs of square brackets. What a leaf takes
-// is inlined into the loops over items, and brackets alone take a call (measured).
+// The leaf at place `at`, with a sign before it or without one, against a type word of these kinds under k pairs of square brackets. Inlined
+// into the loops over items, as `fits_signed` is (measured).
 #[inline(always)]
 fn fits_leaf(tokens: &Tokens<'_>, at: usize, kinds: u32, k: usize, negative: bool) -> Option<usize>
     requires { at < tokens.now.count }
