@@ -84,7 +84,9 @@ fn write(texts: &Texts<'_>, out: &mut [u8]) -> Answer
     write_by::<{ Limits::TEXT }>(texts, out)
 }
 
-// All stages after the guards, by way of so many words for the names of the list and for its directory. Leaves anything in the work areas.
+// All stages after the guards, by way of so many words for the names of the list and for its directory. Leaves anything in the work areas. Not inlined: what a
+// guard refuses takes no stack for its arrays.
+#[inline(never)]
 fn stages_by<'a, const INDEX: usize, const WORDS: usize>(
     list: &'a [u8],
     doc: &'a [u8],
