@@ -20,7 +20,7 @@ use crate::layout::Layout;
 use crate::token::bytes_at;
 use syntax::tokens::Tokens;
 
-// The place of the name that is spelt w. Inlined, as `enter` and `look_up` are: measured, `check` takes a tenth less so.
+// The place of the name that is spelt w. Inlined where it is asked, as `enter` and `look_up` are.
 #[inline(always)]
 fn find(tokens: &Tokens<'_>, index: &[u16], w: &[u8]) -> Option<usize>
     requires walkable { Walkable index.now tokens.now.count tokens.now.count }

@@ -83,7 +83,7 @@ impl Best {
         Best::fault_if(test, refusal.number(), at)
     }
 
-    // The earlier of two. Inlined: each rule asks it, and by a call both faults go through memory.
+    // The earlier of two. Inlined: each rule asks it.
     #[inline(always)]
     pub fn earlier(self, other: Best) -> Best
         ensures { meant result ≡ earlier (meant self) (meant other) }

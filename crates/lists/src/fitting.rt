@@ -89,7 +89,7 @@ fn starts_leaf(s: u32) -> bool
 }
 
 // The leaf at place `at`, with a sign before it or without one, against a type word of these kinds under k pairs of square brackets. Inlined
-// into the loops over items, as `fits_signed` is (measured).
+// into the loops over items, as `fits_signed` is.
 #[inline(always)]
 fn fits_leaf(tokens: &Tokens<'_>, at: usize, kinds: u32, k: usize, negative: bool) -> Option<usize>
     requires { at < tokens.now.count }
